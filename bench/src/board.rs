@@ -1,0 +1,227 @@
+//! A board: its items, its kept changes, and the code for each record.
+
+use std::collections::{BTreeMap, VecDeque};
+
+use crate::code::Code;
+use crate::fault::Fault;
+use crate::geometry::{Point, Rect};
+use crate::item::{Frame, Item};
+use crate::limits::{MAX_BLOCKS, MAX_CLEARANCE, MAX_KEPT, MAX_RUNS, MAX_SIDE};
+use crate::record::{Pins, Record};
+use crate::route::Router;
+use crate::wire::Wire;
+
+/// The answer to one record; an accepted lay or ask comes with its wire.
+#[derive(Clone, PartialEq, Eq, Debug)]
+pub struct Answer {
+    pub code: Code,
+    pub wire: Option<Wire>,
+}
+
+/// A change that an undo can take back.
+enum Change {
+    Added { id: u16 },
+    TakenOut { id: u16, item: Item },
+}
+
+/// A board begins without bounds; each accepted bounds record begins it anew.
+#[derive(Default)]
+pub struct Board {
+    frame: Option<Frame>,
+    items: BTreeMap<u16, Item>,
+    /// Oldest first, at most `MAX_KEPT`.
+    kept: VecDeque<Change>,
+    router: Router,
+}
+
+/// What a record that is not refused gives: the wire of a lay or ask.
+type Outcome = Result<Option<Wire>, Code>;
+
+impl Board {
+    /// A fresh board that searches with the given router.
+    pub fn with_router(router: Router) -> Board {
+        Board { router, ..Board::default() }
+    }
+
+    pub fn frame(&self) -> Option<&Frame> {
+        self.frame.as_ref()
+    }
+
+    /// The items by rising id.
+    pub fn items(&self) -> impl Iterator<Item = (u16, &Item)> {
+        self.items.iter().map(|(&id, item)| (id, item))
+    }
+
+    pub fn block_count(&self) -> usize {
+        self.items.values().map(Item::block_count).sum()
+    }
+
+    /// The blocks of all items, as open rectangles.
+    pub fn blocks(&self) -> Vec<Rect> {
+        let Some(frame) = self.frame else { return Vec::new() };
+        self.items.values().flat_map(|item| item.blocks(&frame, Fault::None)).collect()
+    }
+
+    /// Does the node lie in the interior of a block?
+    pub fn node_blocked(&mut self, p: Point) -> bool {
+        let Some(frame) = self.frame else { return false };
+        self.router.prepare(&frame, self.items.values());
+        self.router.node_blocked(p)
+    }
+
+    /// Takes one piece of a file. A refusal changes nothing.
+    pub fn take(&mut self, piece: &[u8]) -> Answer {
+        let outcome = match Record::read(piece) {
+            None => Err(Code::BadRecord),
+            Some(record) => self.obey(record),
+        };
+        match outcome {
+            Ok(wire) => Answer { code: Code::Accepted, wire },
+            Err(code) => Answer { code, wire: None },
+        }
+    }
+
+    /// Each kind makes its checks in document 01's order; `?` leaves at the
+    /// first that applies.
+    fn obey(&mut self, record: Record) -> Outcome {
+        let frame = self.frame.ok_or(Code::NoBounds);
+        match record {
+            Record::Bounds { w, h, clearance } => self.begin(Frame { w, h, clearance }),
+            Record::Keepout { id, rect } => self.keep_out(&frame?, id, rect),
+            Record::Lay { id, pins } => self.lay(&frame?, id, pins),
+            Record::Ask { pins } => self.find(&frame?, pins).map(Some),
+            Record::TakeOut { id } => self.take_out(&frame?, id),
+            Record::Undo => self.undo(&frame?),
+        }
+    }
+
+    fn begin(&mut self, frame: Frame) -> Outcome {
+        let side_fits = |side: i32| (1..=MAX_SIDE).contains(&side);
+        let clearance_fits = (1..=MAX_CLEARANCE).contains(&frame.clearance);
+        if !(side_fits(frame.w) && side_fits(frame.h) && clearance_fits) {
+            return Err(Code::OutOfRange);
+        }
+        self.frame = Some(frame);
+        self.items.clear();
+        self.kept.clear();
+        self.router.forget();
+        Ok(None)
+    }
+
+    fn keep_out(&mut self, frame: &Frame, id: u16, rect: Rect) -> Outcome {
+        self.check_id_free(id)?;
+        let Rect { x0, y0, x1, y1 } = rect;
+        if !(x0 < x1 && x1 <= frame.w && y0 < y1 && y1 <= frame.h) {
+            return Err(Code::BadRectangle);
+        }
+        if self.keepouts().any(|other| rect.interior_meets(other)) {
+            return Err(Code::MeetsKeepout);
+        }
+        // The wire itself counts here, not the boxes around it.
+        if self.wires().any(|wire| wire.runs().any(|run| rect.interior_meets(run))) {
+            return Err(Code::MeetsWire);
+        }
+        let item = Item::Keepout(rect);
+        self.check_room_for(&item)?;
+        self.change_by_adding(frame, id, item);
+        Ok(None)
+    }
+
+    fn lay(&mut self, frame: &Frame, id: u16, pins: Pins) -> Outcome {
+        self.check_id_free(id)?;
+        let wire = self.find(frame, pins)?;
+        let item = Item::Wire(wire.clone());
+        self.check_room_for(&item)?;
+        self.change_by_adding(frame, id, item);
+        Ok(Some(wire))
+    }
+
+    /// Finds the answered wire; lay and ask share these checks.
+    fn find(&mut self, frame: &Frame, pins: Pins) -> Result<Wire, Code> {
+        let Pins { s, t } = pins;
+        if !(frame.holds(s) && frame.holds(t)) {
+            return Err(Code::PinOffBoard);
+        }
+        if s == t {
+            return Err(Code::PinsEqual);
+        }
+        self.router.prepare(frame, self.items.values());
+        if self.router.node_blocked(s) || self.router.node_blocked(t) {
+            return Err(Code::PinBlocked);
+        }
+        let wire = self.router.shortest(frame, s, t).ok_or(Code::NoWire)?;
+        if wire.run_count() > MAX_RUNS {
+            return Err(Code::TooManyRuns);
+        }
+        Ok(wire)
+    }
+
+    fn take_out(&mut self, frame: &Frame, id: u16) -> Outcome {
+        let item = self.remove(frame, id).ok_or(Code::IdNotInUse)?;
+        self.keep(Change::TakenOut { id, item });
+        Ok(None)
+    }
+
+    /// Takes back the latest kept change and forgets it.
+    fn undo(&mut self, frame: &Frame) -> Outcome {
+        match self.kept.pop_back().ok_or(Code::NothingKept)? {
+            Change::Added { id } => {
+                self.remove(frame, id).expect("a kept addition still stands");
+            }
+            Change::TakenOut { id, item } => self.add(frame, id, item),
+        }
+        Ok(None)
+    }
+
+    fn check_id_free(&self, id: u16) -> Result<(), Code> {
+        if self.items.contains_key(&id) {
+            return Err(Code::IdInUse);
+        }
+        Ok(())
+    }
+
+    fn check_room_for(&self, item: &Item) -> Result<(), Code> {
+        if self.block_count() + item.block_count() > MAX_BLOCKS {
+            return Err(Code::TooManyBlocks);
+        }
+        Ok(())
+    }
+
+    fn change_by_adding(&mut self, frame: &Frame, id: u16, item: Item) {
+        self.add(frame, id, item);
+        self.keep(Change::Added { id });
+    }
+
+    /// Keeps a change; the oldest is dropped for good when there are too many.
+    fn keep(&mut self, change: Change) {
+        if self.kept.len() == MAX_KEPT {
+            self.kept.pop_front();
+        }
+        self.kept.push_back(change);
+    }
+
+    fn add(&mut self, frame: &Frame, id: u16, item: Item) {
+        self.router.note_added(frame, &item);
+        self.items.insert(id, item);
+    }
+
+    fn remove(&mut self, frame: &Frame, id: u16) -> Option<Item> {
+        let item = self.items.remove(&id)?;
+        self.router.note_removed(frame, &item);
+        Some(item)
+    }
+
+    fn keepouts(&self) -> impl Iterator<Item = Rect> + '_ {
+        self.items.values().filter_map(|item| match item {
+            Item::Keepout(rect) => Some(*rect),
+            Item::Wire(_) => None,
+        })
+    }
+
+    fn wires(&self) -> impl Iterator<Item = &Wire> + '_ {
+        self.items.values().filter_map(|item| match item {
+            Item::Wire(wire) => Some(wire),
+            Item::Keepout(_) => None,
+        })
+    }
+}

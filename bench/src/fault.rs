@@ -1,0 +1,80 @@
+//! Faults that the tests plant on purpose, to show that they would be noticed.
+//!
+//! The program always runs with `Fault::None`; only tests pass another one.
+//! They are the four ways astray that document 01 names.
+
+use crate::geometry::Rect;
+use crate::item::Frame;
+
+#[derive(Clone, Copy, PartialEq, Eq, Debug, Default)]
+pub enum Fault {
+    #[default]
+    None,
+    /// A wire's box is trimmed to the board, which opens the board's edge.
+    TrimmedBoxes,
+    /// The wide search knows only the outermost sides of blocks that touch.
+    OuterSides,
+    /// Edges are blocked by interior nodes, so a block without one is open.
+    InteriorNodes,
+    /// A take-out clears the marks of its room, also where a neighbour's box
+    /// covers the same room.
+    ClearedMarks,
+}
+
+impl Fault {
+    /// The blocks of one item as this fault sees them.
+    pub fn spoil_blocks(self, mut blocks: Vec<Rect>, frame: &Frame) -> Vec<Rect> {
+        match self {
+            Fault::TrimmedBoxes => blocks.iter_mut().for_each(|block| {
+                *block = Rect::new(
+                    block.x0.max(0),
+                    block.y0.max(0),
+                    block.x1.min(frame.w),
+                    block.y1.min(frame.h),
+                )
+            }),
+            Fault::InteriorNodes => {
+                blocks.retain(|block| block.x1 - block.x0 > 1 && block.y1 - block.y0 > 1)
+            }
+            Fault::None | Fault::OuterSides | Fault::ClearedMarks => {}
+        }
+        blocks
+    }
+
+    /// The rectangles whose sides the wide search cuts the board at.
+    pub fn cutting(self, blocks: &[Rect]) -> Vec<Rect> {
+        match self {
+            Fault::OuterSides => clusters(blocks),
+            _ => blocks.to_vec(),
+        }
+    }
+}
+
+/// Each heap of touching blocks as the rectangle around it.
+fn clusters(blocks: &[Rect]) -> Vec<Rect> {
+    let mut heaps: Vec<Vec<Rect>> = Vec::new();
+    for &block in blocks {
+        let (touching, mut rest): (Vec<_>, Vec<_>) =
+            heaps.into_iter().partition(|heap| heap.iter().any(|&other| touch(block, other)));
+        let mut heap: Vec<Rect> = touching.into_iter().flatten().collect();
+        heap.push(block);
+        rest.push(heap);
+        heaps = rest;
+    }
+    heaps.iter().map(|heap| around(heap)).collect()
+}
+
+fn touch(a: Rect, b: Rect) -> bool {
+    a.x0 <= b.x1 && b.x0 <= a.x1 && a.y0 <= b.y1 && b.y0 <= a.y1
+}
+
+fn around(heap: &[Rect]) -> Rect {
+    heap.iter().fold(heap[0], |all, block| {
+        Rect::new(
+            all.x0.min(block.x0),
+            all.y0.min(block.y0),
+            all.x1.max(block.x1),
+            all.y1.max(block.y1),
+        )
+    })
+}

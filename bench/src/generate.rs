@@ -1,0 +1,79 @@
+//! Random record files, for comparing one router with another.
+//!
+//! A style repeats its episode, each on a board of its own, until the file is
+//! as long as wanted. The maker keeps a board beside the file, so that it can
+//! aim: at ids in use, at sides that already stand, at pins across a block.
+
+mod aim;
+mod broken;
+mod episodes;
+mod maker;
+mod maze;
+
+use maker::Maker;
+
+pub struct Style {
+    pub name: &'static str,
+    pub about: &'static str,
+    episode: fn(&mut Maker),
+}
+
+pub const STYLES: [Style; 7] = [
+    Style { name: "small", about: "dense boards of up to 14 x 14", episode: episodes::small },
+    Style {
+        name: "history",
+        about: "long histories on up to 200 x 200: undo, take-out, ids and room used again",
+        episode: episodes::history,
+    },
+    Style {
+        name: "large",
+        about: "boards of up to 30000 x 30000, clearance up to 200",
+        episode: episodes::large,
+    },
+    Style {
+        name: "maze",
+        about: "wires of about 24 runs, boards of about 46 blocks",
+        episode: maze::maze,
+    },
+    Style {
+        name: "flush",
+        about: "coordinates that touch, abut and lie flush with the edge",
+        episode: episodes::flush,
+    },
+    Style {
+        name: "broken",
+        about: "malformed records of every sort, records before bounds, a short last piece",
+        episode: broken::broken,
+    },
+    Style { name: "mixed", about: "all of the above in turn", episode: mixed },
+];
+
+/// Records of a file if nothing else is asked for.
+pub const DEFAULT_COUNT: usize = 2_000;
+
+impl Style {
+    pub fn named(name: &str) -> Option<&'static Style> {
+        STYLES.iter().find(|style| style.name == name)
+    }
+
+    /// The file of a seed, with `count` records.
+    pub fn file(&self, seed: u64, count: usize) -> Vec<u8> {
+        let mut maker = Maker::new(seed, count);
+        while maker.left() > 0 {
+            (self.episode)(&mut maker);
+        }
+        maker.file()
+    }
+}
+
+fn mixed(maker: &mut Maker) {
+    let others = [
+        episodes::small,
+        episodes::history,
+        episodes::large,
+        maze::maze,
+        episodes::flush,
+        broken::broken,
+    ];
+    maker.rng.pick(&others)(maker)
+}

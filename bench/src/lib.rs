@@ -1,0 +1,28 @@
+//! The board designer's bench: a second router and the tools around it.
+//!
+//! It is written from the customer's documents alone, so that another router
+//! can be compared with it byte for byte. "Document 01" in the comments is the
+//! page that gives the router's rules.
+//!
+//! Read it in this order: `limits` and `geometry` name things, `record` reads
+//! twelve bytes, `board` keeps the items and decides the codes, `route` picks
+//! one of the two searches (`unit`, `wide`), `sheet` prints. The other tools are
+//! `generate`, `tally`, `text` and `draw`; `fault` is there for the tests only.
+
+pub mod board;
+pub mod code;
+pub mod draw;
+pub mod fault;
+pub mod generate;
+pub mod geometry;
+pub mod item;
+pub mod limits;
+pub mod record;
+pub mod rng;
+pub mod route;
+pub mod sheet;
+pub mod tally;
+pub mod text;
+pub mod unit;
+pub mod wide;
+pub mod wire;

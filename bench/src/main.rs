@@ -1,0 +1,145 @@
+//! The command line of the bench; the work is in the library.
+
+use std::env;
+use std::io::{self, BufReader, BufWriter, Read, Write};
+use std::process::ExitCode;
+use std::time::{Duration, Instant};
+
+use bench::board::Board;
+use bench::draw::Scene;
+use bench::generate::{Style, DEFAULT_COUNT, STYLES};
+use bench::sheet::{self, Stopped};
+use bench::tally::Tally;
+use bench::text;
+
+const USAGE: &str = "\
+usage: bench COMMAND, reading standard input and writing standard output
+
+  print                   records -> the sheet's lines
+  gen SEED STYLE [COUNT]  nothing -> a random record file
+  tally                   records -> how often each code came
+  pack                    readable text -> records
+  unpack                  records -> readable text
+  draw                    records -> an SVG picture of the board
+";
+
+/// The usage text with the generator's styles.
+fn usage() -> String {
+    let mut text = String::from(USAGE);
+    text += &format!("\nstyles of gen (COUNT is {DEFAULT_COUNT} records unless given):\n");
+    for style in &STYLES {
+        text += &format!("  {:<8} {}\n", style.name, style.about);
+    }
+    text
+}
+
+/// How often a long run says how far it is.
+const PROGRESS_EVERY: Duration = Duration::from_secs(5);
+
+/// Why a command ends early.
+enum Failure {
+    /// The command line is wrong.
+    Usage(String),
+    /// Something else went wrong.
+    Told(String),
+    /// Nobody reads the output any more, which is no one's fault.
+    Closed,
+}
+
+fn main() -> ExitCode {
+    let args: Vec<String> =
+        env::args_os().skip(1).map(|arg| arg.to_string_lossy().into_owned()).collect();
+    let args: Vec<&str> = args.iter().map(String::as_str).collect();
+    let (what, status) = match run(&args) {
+        Ok(()) | Err(Failure::Closed) => return ExitCode::SUCCESS,
+        Err(Failure::Usage(what)) => (format!("bench: {what}\n\n{}", usage()), 2),
+        Err(Failure::Told(what)) => (format!("bench {}: {what}\n", args[0]), 1),
+    };
+    // If standard error is closed too, there is nobody left to tell.
+    let _ = io::stderr().write_all(what.as_bytes());
+    ExitCode::from(status)
+}
+
+fn run(args: &[&str]) -> Result<(), Failure> {
+    match args {
+        [] => Err(Failure::Usage("no command".to_string())),
+        ["print"] => print(),
+        ["tally"] => {
+            let tally = Tally::of(BufReader::new(io::stdin())).map_err(unread)?;
+            write(tally.to_string().as_bytes())
+        }
+        ["pack"] => {
+            let bad =
+                |bad: text::BadLine| Failure::Told(format!("line {}: {}", bad.line, bad.what));
+            write(&text::pack(&read()?).map_err(bad)?)
+        }
+        ["unpack"] => write(text::unpack(&read()?).as_bytes()),
+        ["draw"] => {
+            let scene = Scene::of(BufReader::new(io::stdin())).map_err(unread)?;
+            write(scene.svg().as_bytes())
+        }
+        ["gen", rest @ ..] => write(&generate(rest)?),
+        [command @ ("print" | "tally" | "pack" | "unpack" | "draw"), ..] => {
+            Err(Failure::Usage(format!("{command} takes nothing on the command line")))
+        }
+        [command, ..] => Err(Failure::Usage(format!("unknown command '{command}'"))),
+    }
+}
+
+fn print() -> Result<(), Failure> {
+    let input = BufReader::new(io::stdin());
+    let output = BufWriter::new(io::stdout());
+    let mut told = Instant::now();
+    let progress = |number: usize| {
+        if told.elapsed() >= PROGRESS_EVERY {
+            told = Instant::now();
+            let _ = writeln!(io::stderr(), "bench print: {number} records so far");
+        }
+    };
+    sheet::print(input, output, Board::default(), progress).map_err(|stopped| match stopped {
+        Stopped::Write(error) => unwritten(error),
+        Stopped::Read { record, error } => {
+            Failure::Told(format!("cannot read record {record}: {error}"))
+        }
+    })
+}
+
+fn generate(args: &[&str]) -> Result<Vec<u8>, Failure> {
+    let usage = |what: String| Failure::Usage(what);
+    let (seed, style, count) = match args {
+        [seed, style] => (seed, style, None),
+        [seed, style, count] => (seed, style, Some(count)),
+        _ => return Err(usage("gen takes SEED STYLE [COUNT]".to_string())),
+    };
+    let seed: u64 = seed.parse().map_err(|_| usage(format!("SEED is '{seed}', not a number")))?;
+    let style = Style::named(style).ok_or_else(|| usage(format!("unknown STYLE '{style}'")))?;
+    let count = match count {
+        None => DEFAULT_COUNT,
+        Some(count) => {
+            count.parse().map_err(|_| usage(format!("COUNT is '{count}', not a number")))?
+        }
+    };
+    Ok(style.file(seed, count))
+}
+
+fn read() -> Result<Vec<u8>, Failure> {
+    let mut bytes = Vec::new();
+    io::stdin().read_to_end(&mut bytes).map_err(unread)?;
+    Ok(bytes)
+}
+
+fn write(bytes: &[u8]) -> Result<(), Failure> {
+    let mut output = io::stdout();
+    output.write_all(bytes).and_then(|()| output.flush()).map_err(unwritten)
+}
+
+fn unread(error: io::Error) -> Failure {
+    Failure::Told(format!("cannot read standard input: {error}"))
+}
+
+fn unwritten(error: io::Error) -> Failure {
+    match error.kind() {
+        io::ErrorKind::BrokenPipe => Failure::Closed,
+        _ => Failure::Told(format!("cannot write standard output: {error}")),
+    }
+}

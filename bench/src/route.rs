@@ -1,0 +1,121 @@
+//! Chooses between the two searches and keeps what they prepare.
+//!
+//! Nothing here is kept up to date bit by bit: when the items change, the
+//! blocks and the searches' maps are made anew from the items that stand, at
+//! the next search. So room that two blocks share cannot be freed by one.
+
+use crate::fault::Fault;
+use crate::geometry::{Point, Rect};
+use crate::item::{Frame, Item};
+use crate::limits::UNIT_SEARCH_NODES;
+use crate::unit::UnitMap;
+use crate::wide::WideMap;
+use crate::wire::Wire;
+
+/// Which search finds the wires.
+#[derive(Clone, Copy, PartialEq, Eq, Debug, Default)]
+pub enum Method {
+    /// Unit steps on boards of up to `UNIT_SEARCH_NODES`, rooms above that.
+    #[default]
+    BySize,
+    Unit,
+    Wide,
+}
+
+/// The searches for one board.
+pub struct Router {
+    method: Method,
+    fault: Fault,
+    blocks: Vec<Rect>,
+    blocks_stale: bool,
+    unit: UnitMap,
+    unit_stale: bool,
+    wide: WideMap,
+    wide_stale: bool,
+}
+
+impl Default for Router {
+    fn default() -> Router {
+        Router::new(Method::BySize, Fault::None)
+    }
+}
+
+impl Router {
+    /// A router with a method and a planted fault; the program itself uses
+    /// `default`, which has none.
+    pub fn new(method: Method, fault: Fault) -> Router {
+        Router {
+            method,
+            fault,
+            blocks: Vec::new(),
+            blocks_stale: true,
+            unit: UnitMap::default(),
+            unit_stale: true,
+            wide: WideMap::default(),
+            wide_stale: true,
+        }
+    }
+
+    /// Drops everything prepared, for a new board.
+    pub fn forget(&mut self) {
+        self.blocks_stale = true;
+        self.unit_stale = true;
+        self.wide_stale = true;
+    }
+
+    pub fn note_added(&mut self, frame: &Frame, item: &Item) {
+        self.note(frame, item, true);
+    }
+
+    pub fn note_removed(&mut self, frame: &Frame, item: &Item) {
+        self.note(frame, item, false);
+    }
+
+    fn note(&mut self, frame: &Frame, item: &Item, blocked: bool) {
+        let keep_marks = self.fault == Fault::ClearedMarks && !self.unit_stale;
+        self.forget();
+        if keep_marks {
+            for block in item.blocks(frame, self.fault) {
+                self.unit.mark(block, blocked);
+            }
+            self.unit_stale = false;
+        }
+    }
+
+    /// Lists the blocks of the items, unless that was done since the last
+    /// change. The questions below need it.
+    pub fn prepare<'a>(&mut self, frame: &Frame, items: impl Iterator<Item = &'a Item>) {
+        if self.blocks_stale {
+            let fault = self.fault;
+            self.blocks = items.flat_map(|item| item.blocks(frame, fault)).collect();
+            self.blocks_stale = false;
+        }
+    }
+
+    /// Does the node lie in the interior of a block?
+    pub fn node_blocked(&self, p: Point) -> bool {
+        self.blocks.iter().any(|block| block.interior_holds(p))
+    }
+
+    /// The answered wire between two different nodes that are not blocked.
+    pub fn shortest(&mut self, frame: &Frame, s: Point, t: Point) -> Option<Wire> {
+        let by_units = match self.method {
+            Method::BySize => frame.nodes() <= UNIT_SEARCH_NODES,
+            Method::Unit => true,
+            Method::Wide => false,
+        };
+        if by_units {
+            if self.unit_stale {
+                self.unit.lay_out(frame, &self.blocks);
+                self.unit_stale = false;
+            }
+            self.unit.shortest(s, t)
+        } else {
+            if self.wide_stale {
+                self.wide.lay_out(frame, &self.blocks, self.fault);
+                self.wide_stale = false;
+            }
+            self.wide.shortest(s, t)
+        }
+    }
+}

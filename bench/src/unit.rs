@@ -1,0 +1,148 @@
+//! The search over every unit node: a breadth-first search from t, then a walk
+//! from s that always takes the first step, in the order E, N, W, S, which
+//! comes nearer to t. That walk is shortest, and no shortest walk is spelled
+//! before it: at each node it takes the first letter any of them can have.
+
+use crate::geometry::{Dir, Point, Rect};
+use crate::item::Frame;
+use crate::wire::{Spelling, Wire};
+
+/// A node that the search has not reached.
+const UNSEEN: u32 = u32::MAX;
+
+/// The bit of a node's open steps that stands for a direction.
+fn bit(dir: Dir) -> u8 {
+    1 << dir as u8
+}
+
+/// The board's nodes row by row, each with the steps that are open there.
+#[derive(Default)]
+pub struct UnitMap {
+    w: i32,
+    h: i32,
+    open: Vec<u8>,
+    /// Steps to t; all `UNSEEN` between searches.
+    dist: Vec<u32>,
+    /// The nodes reached, in the order of their distance.
+    queue: Vec<u32>,
+}
+
+impl UnitMap {
+    /// Marks the open steps of a board with these blocks.
+    pub fn lay_out(&mut self, frame: &Frame, blocks: &[Rect]) {
+        let nodes = usize::try_from(frame.nodes()).expect("a board's nodes can be counted");
+        (self.w, self.h) = (frame.w, frame.h);
+        self.open.clear();
+        self.open.resize(nodes, Dir::ORDER.into_iter().map(bit).sum());
+        self.dist.resize(nodes, UNSEEN);
+        for y in 0..=self.h {
+            self.set(y, 0, 0, Dir::W, true);
+            self.set(y, self.w, self.w, Dir::E, true);
+        }
+        self.set(0, 0, self.w, Dir::S, true);
+        self.set(self.h, 0, self.w, Dir::N, true);
+        for &block in blocks {
+            self.mark(block, true);
+        }
+    }
+
+    /// Blocks (or, for a planted fault, opens) the unit edges whose open part
+    /// meets the block's interior: edges along x on rows strictly inside it,
+    /// edges along y on columns strictly inside it. An edge begins and ends
+    /// within the block's closed span, so a block one unit wide blocks the
+    /// edges across it although no node lies in it.
+    pub fn mark(&mut self, block: Rect, blocked: bool) {
+        let (x0, x1) = (block.x0.max(0), block.x1.min(self.w));
+        let (y0, y1) = (block.y0.max(0), block.y1.min(self.h));
+        for y in (block.y0 + 1).max(0)..=(block.y1 - 1).min(self.h) {
+            self.set(y, x0, x1 - 1, Dir::E, blocked);
+            self.set(y, x0 + 1, x1, Dir::W, blocked);
+        }
+        let (left, right) = ((block.x0 + 1).max(0), (block.x1 - 1).min(self.w));
+        for y in y0..y1 {
+            self.set(y, left, right, Dir::N, blocked);
+            self.set(y + 1, left, right, Dir::S, blocked);
+        }
+    }
+
+    /// Blocks or opens one direction at the nodes x0..=x1 of a row.
+    fn set(&mut self, y: i32, x0: i32, x1: i32, dir: Dir, blocked: bool) {
+        if x0 > x1 {
+            return;
+        }
+        let (from, to) = (self.index(Point::new(x0, y)), self.index(Point::new(x1, y)));
+        for steps in &mut self.open[from..=to] {
+            if blocked {
+                *steps &= !bit(dir);
+            } else {
+                *steps |= bit(dir);
+            }
+        }
+    }
+
+    /// The answered wire between two different nodes, if there is one.
+    pub fn shortest(&mut self, s: Point, t: Point) -> Option<Wire> {
+        let wire = self.spread(t, s).then(|| self.trace(s, t));
+        for node in self.queue.drain(..) {
+            self.dist[node as usize] = UNSEEN;
+        }
+        wire
+    }
+
+    /// Spreads from t until s is reached; then every node nearer to t than s
+    /// has its distance. False if s cannot be reached.
+    fn spread(&mut self, t: Point, s: Point) -> bool {
+        let (start, goal) = (self.index(t), self.index(s));
+        let offsets = self.offsets();
+        self.dist[start] = 0;
+        self.queue.push(start as u32);
+        let mut head = 0;
+        while let Some(&node) = self.queue.get(head) {
+            let node = node as usize;
+            head += 1;
+            let (steps, dist) = (self.open[node], self.dist[node] + 1);
+            for (dir, offset) in offsets {
+                let next = node.wrapping_add_signed(offset);
+                if steps & bit(dir) != 0 && self.dist[next] == UNSEEN {
+                    self.dist[next] = dist;
+                    self.queue.push(next as u32);
+                    if next == goal {
+                        return true;
+                    }
+                }
+            }
+        }
+        false
+    }
+
+    fn trace(&self, s: Point, t: Point) -> Wire {
+        let offsets = self.offsets();
+        let mut wire = Spelling::from(s);
+        let mut node = self.index(s);
+        while wire.at() != t {
+            let nearer = self.dist[node] - 1;
+            let (dir, offset) = offsets
+                .into_iter()
+                .find(|&(dir, offset)| {
+                    self.open[node] & bit(dir) != 0
+                        && self.dist[node.wrapping_add_signed(offset)] == nearer
+                })
+                .expect("a node reached by the search has a nearer neighbour");
+            node = node.wrapping_add_signed(offset);
+            wire.go(dir, 1);
+        }
+        wire.finish()
+    }
+
+    fn index(&self, p: Point) -> usize {
+        p.y as usize * (self.w as usize + 1) + p.x as usize
+    }
+
+    /// Each direction with the distance between two neighbours' indexes.
+    fn offsets(&self) -> [(Dir, isize); 4] {
+        Dir::ORDER.map(|dir| {
+            let (dx, dy) = dir.delta();
+            (dir, (dy as isize) * (self.w as isize + 1) + dx as isize)
+        })
+    }
+}

@@ -1,0 +1,96 @@
+//! The picture of a board. How it looks is for the eye; here is what must
+//! stand in it.
+
+mod common;
+
+use bench::draw::Scene;
+use common::{ask, bounds, keepout, lay};
+
+fn svg(records: &[Vec<u8>]) -> String {
+    Scene::of(records.concat().as_slice()).expect("memory can be read").svg()
+}
+
+/// Every tag that is opened is closed, in order.
+fn assert_well_formed(svg: &str) {
+    let mut open = Vec::new();
+    for tag in svg.split('<').skip(1) {
+        let tag = tag.split('>').next().expect("a tag");
+        let name = tag.trim_start_matches('/').split([' ', '/']).next().expect("a name");
+        if tag.starts_with('/') {
+            assert_eq!(open.pop(), Some(name), "{tag}");
+        } else if !tag.ends_with('/') {
+            open.push(name);
+        }
+    }
+    assert!(open.is_empty(), "{open:?}");
+}
+
+/// The value of an attribute in the first line that holds `what`.
+fn value(svg: &str, what: &str, attribute: &str) -> f64 {
+    let line = svg.lines().find(|line| line.contains(what)).expect(what);
+    let rest = line.split(&format!(" {attribute}=\"")).nth(1).expect(attribute);
+    rest.split('"').next().expect("a value").parse().expect("a number")
+}
+
+#[test]
+fn every_item_is_drawn() {
+    let svg = svg(&[
+        bounds(10, 12, 1),
+        keepout(1234, 3, 2, 6, 8),
+        keepout(4321, 6, 2, 7, 8),
+        lay(77, 0, 10, 10, 10),
+        ask(1, 5, 8, 5),
+    ]);
+    assert_well_formed(&svg);
+    for text in
+        [">10 \u{d7} 12, clearance 1<", ">1234<", ">4321<", ">77<", "detour 3", ">s<", ">t<"]
+    {
+        assert!(svg.contains(text), "{text} is missing");
+    }
+    // Each once more in the legend.
+    let count = |what: &str| svg.matches(what).count();
+    assert_eq!(count("class=\"keepout\""), 2 + 1);
+    assert_eq!(count("class=\"wire\""), 1 + 1);
+    assert_eq!(count("class=\"last\""), 1 + 1);
+    assert_eq!(count("class=\"box\""), 1 + 1);
+}
+
+#[test]
+fn y_points_up() {
+    let low = svg(&[bounds(10, 10, 1), keepout(1, 0, 0, 2, 2)]);
+    let high = svg(&[bounds(10, 10, 1), keepout(1, 0, 8, 2, 10)]);
+    let y = |svg: &str| value(svg, "class=\"keepout\"", "y");
+    assert_eq!(y(&low) - y(&high), 4.0 * value(&low, "class=\"keepout\"", "height"));
+}
+
+#[test]
+fn any_size_fits_the_paper() {
+    for (w, h) in [(1, 1), (10, 10), (30_000, 30_000), (30_000, 1), (1, 30_000), (7, 400)] {
+        let svg = svg(&[bounds(w, h, 1), ask(0, 0, w, h)]);
+        assert_well_formed(&svg);
+        let (wide, high) = (value(&svg, "<svg", "width"), value(&svg, "<svg", "height"));
+        let board = |attribute| value(&svg, "class=\"board\"", attribute);
+        assert!(board("width") >= 100.0 && board("height") >= 100.0, "{w} x {h}");
+        assert!(board("x") + board("width") < wide && board("y") + board("height") < high);
+        assert!(wide <= 1_100.0 && high <= 1_100.0, "{w} x {h}");
+    }
+}
+
+#[test]
+fn a_new_board_has_no_answer_yet() {
+    let svg = svg(&[bounds(10, 10, 1), ask(0, 0, 5, 5), bounds(9, 9, 1)]);
+    assert!(svg.contains("no answer yet") && !svg.contains("class=\"pin\""));
+}
+
+#[test]
+fn refused_bounds_keep_the_answer() {
+    let svg = svg(&[bounds(10, 10, 1), ask(0, 0, 5, 5), bounds(0, 9, 1)]);
+    assert!(svg.contains("length 10, detour 0") && svg.contains("class=\"pin\""));
+}
+
+#[test]
+fn no_board_is_said() {
+    let svg = svg(&[bounds(0, 0, 0)]);
+    assert_well_formed(&svg);
+    assert!(svg.contains("no board"));
+}

@@ -1,0 +1,72 @@
+//! The generator: what its files reach.
+
+use bench::generate::{Style, DEFAULT_COUNT, STYLES};
+use bench::limits::{MAX_RECORDS, RECORD_BYTES};
+use bench::tally::Tally;
+
+fn tally(style: &Style, seeds: std::ops::Range<u64>) -> Tally {
+    let mut all = Tally::default();
+    for seed in seeds {
+        let file = style.file(seed, DEFAULT_COUNT);
+        all.add(&Tally::of(file.as_slice()).expect("memory can be read"));
+    }
+    all
+}
+
+#[test]
+fn the_styles_reach_every_code_and_many_wires() {
+    let mut all = Tally::default();
+    for style in &STYLES {
+        let tally = tally(style, 0..10);
+        assert!(5 * tally.wires > tally.records(), "{}: few wires\n{tally}", style.name);
+        assert!(4 * tally.detours > tally.wires, "{}: few detours\n{tally}", style.name);
+        all.add(&tally);
+    }
+    for (code, count) in all.codes.iter().enumerate() {
+        assert!(*count >= 20, "code {code} came {count} times\n{all}");
+    }
+    for (runs, count) in all.runs.iter().enumerate().skip(1) {
+        assert!(*count >= 5, "{runs} runs came {count} times\n{all}");
+    }
+}
+
+#[test]
+fn mazes_reach_the_limits() {
+    let tally = tally(Style::named("maze").expect("a style"), 0..10);
+    assert!(tally.runs[24] >= 20, "{tally}");
+    assert!(tally.codes[13] >= 100, "{tally}");
+    assert!(tally.codes[14] >= 100, "{tally}");
+}
+
+#[test]
+fn a_seed_always_gives_the_same_file() {
+    for style in &STYLES {
+        assert_eq!(style.file(7, 300), style.file(7, 300), "{}", style.name);
+        assert_ne!(style.file(7, 300), style.file(8, 300), "{}", style.name);
+    }
+}
+
+#[test]
+fn a_file_is_as_long_as_asked() {
+    for style in &STYLES {
+        for count in [0, 1, 2, 57] {
+            let records = style.file(3, count).chunks(RECORD_BYTES).count();
+            assert_eq!(records, count, "{}", style.name);
+        }
+    }
+    let small = Style::named("small").expect("a style");
+    let past_the_sheet = small.file(3, MAX_RECORDS + 1);
+    assert_eq!(past_the_sheet.len(), (MAX_RECORDS + 1) * RECORD_BYTES);
+    let tally = Tally::of(past_the_sheet.as_slice()).expect("memory can be read");
+    assert!(tally.cut && tally.records() == MAX_RECORDS);
+}
+
+#[test]
+fn broken_files_end_in_a_short_piece() {
+    let broken = Style::named("broken").expect("a style");
+    let mut lengths: Vec<usize> =
+        (0..200).map(|seed| broken.file(seed, 20).len() - 19 * RECORD_BYTES).collect();
+    lengths.sort_unstable();
+    lengths.dedup();
+    assert_eq!(lengths, Vec::from_iter(1..RECORD_BYTES));
+}

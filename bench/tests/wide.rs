@@ -1,0 +1,210 @@
+//! The search over rooms against the search over unit nodes.
+
+mod common;
+
+use bench::fault::Fault;
+use bench::generate::Style;
+use bench::geometry::{Point, Rect};
+use bench::item::Frame;
+use bench::limits::MAX_BLOCKS;
+use bench::rng::Rng;
+use bench::route::Method;
+use bench::unit::UnitMap;
+use bench::wide::WideMap;
+use common::sheet_by;
+
+/// A board as the searches see it, with pairs of pins on free nodes.
+struct Scene {
+    frame: Frame,
+    blocks: Vec<Rect>,
+    pins: Vec<(Point, Point)>,
+}
+
+/// How the random boards of a test look.
+#[derive(Clone, Copy)]
+struct Look {
+    w: (i32, i32),
+    h: (i32, i32),
+    boards: u64,
+}
+
+/// A coordinate of a block, which may lie outside the board.
+fn side(rng: &mut Rng, last: i32, pool: &[i32]) -> i32 {
+    match rng.range(0, 9) {
+        0..=4 => rng.pick(pool),
+        5 => rng.pick(&[0, last]),
+        6 => rng.range(-3, last + 3),
+        _ => rng.range(0, last),
+    }
+}
+
+/// Two sides of a block, the first the smaller. The block reaches onto the
+/// board, as keep-outs and boxes of wires do.
+fn span(rng: &mut Rng, last: i32, pool: &[i32]) -> (i32, i32) {
+    loop {
+        let from = side(rng, last, pool);
+        let to = match rng.range(0, 3) {
+            0 => from + 1,
+            1 => from + rng.range(1, 1 + last / 4),
+            _ => side(rng, last, pool),
+        };
+        let (from, to) = (from.min(to), from.max(to));
+        if from < to && from < last && to > 0 {
+            return (from, to);
+        }
+    }
+}
+
+impl Scene {
+    fn random(rng: &mut Rng, look: Look) -> Scene {
+        let (w, h) = (rng.range(look.w.0, look.w.1), rng.range(look.h.0, look.h.1));
+        // Sides drawn from a few coordinates touch, abut and overlap.
+        let mut few = |last| -> Vec<i32> { (0..6).map(|_| rng.range(0, last)).collect() };
+        let (xs, ys) = (few(w), few(h));
+        let count = rng.pick(&[1, 2, 3, 5, 8, 13, 21, MAX_BLOCKS]);
+        let blocks: Vec<Rect> = (0..count)
+            .map(|_| {
+                let ((x0, x1), (y0, y1)) = (span(rng, w, &xs), span(rng, h, &ys));
+                Rect::new(x0, y0, x1, y1)
+            })
+            .collect();
+        let mut free = Vec::new();
+        for _ in 0..60 {
+            let p = Point::new(side(rng, w, &xs).clamp(0, w), side(rng, h, &ys).clamp(0, h));
+            if !blocks.iter().any(|block| block.interior_holds(p)) {
+                free.push(p);
+            }
+        }
+        let pairs = free.chunks_exact(2).map(|pair| (pair[0], pair[1]));
+        let pins = pairs.filter(|(s, t)| s != t).take(4).collect();
+        Scene { frame: Frame { w, h, clearance: 1 }, blocks, pins }
+    }
+}
+
+/// How often the two searches were asked, and how often a wire was found with
+/// and without a detour.
+#[derive(Default, Debug)]
+struct Counts {
+    asked: usize,
+    straight: usize,
+    detours: usize,
+}
+
+/// Compares the two searches on random boards.
+fn compare(look: Look, fault: Fault) -> Result<Counts, String> {
+    let mut counts = Counts::default();
+    let (mut unit, mut wide) = (UnitMap::default(), WideMap::default());
+    for seed in 0..look.boards {
+        let scene = Scene::random(&mut Rng::new(seed), look);
+        unit.lay_out(&scene.frame, &scene.blocks);
+        wide.lay_out(&scene.frame, &scene.blocks, fault);
+        for &(s, t) in &scene.pins {
+            let (by_unit, by_wide) = (unit.shortest(s, t), wide.shortest(s, t));
+            if by_unit != by_wide {
+                return Err(format!("board {seed}, {s:?} to {t:?}: {by_unit:?}, {by_wide:?}"));
+            }
+            counts.asked += 1;
+            match by_unit.map(|wire| wire.detour()) {
+                Some(0) => counts.straight += 1,
+                Some(_) => counts.detours += 1,
+                None => {}
+            }
+        }
+    }
+    Ok(counts)
+}
+
+const SMALL: Look = Look { w: (1, 12), h: (1, 12), boards: 60_000 };
+const MIDDLE: Look = Look { w: (13, 90), h: (13, 90), boards: 10_000 };
+const WIDE: Look = Look { w: (300, 700), h: (300, 700), boards: 300 };
+const LIMIT: Look = Look { w: (1_990, 1_999), h: (1_990, 1_999), boards: 20 };
+const STRIP: Look = Look { w: (30_000, 30_000), h: (20, 120), boards: 30 };
+
+fn assert_agreement(look: Look, least: usize) {
+    let counts = compare(look, Fault::None).unwrap_or_else(|difference| panic!("{difference}"));
+    let Counts { asked, straight, detours } = counts;
+    assert!(straight > least && detours > least && asked > straight + detours, "{counts:?}");
+}
+
+#[test]
+fn small_boards_agree() {
+    assert_agreement(SMALL, 20_000);
+}
+
+#[test]
+fn middle_boards_agree() {
+    assert_agreement(MIDDLE, 4_000);
+}
+
+#[test]
+fn wide_boards_agree() {
+    assert_agreement(WIDE, 100);
+}
+
+#[test]
+fn the_largest_boards_of_the_unit_search_agree() {
+    assert_agreement(LIMIT, 10);
+    assert_agreement(STRIP, 10);
+}
+
+#[test]
+fn a_search_without_the_inner_sides_is_noticed() {
+    for look in [SMALL, MIDDLE, WIDE] {
+        assert!(compare(look, Fault::OuterSides).is_err());
+    }
+}
+
+/// Drawn larger by a whole factor, a board has the same wires, drawn larger:
+/// in the larger board a run between two multiples of the factor can always be
+/// pushed onto one of them without becoming longer or later in the order,
+/// since no block has a side between them. So the unit search on a small board
+/// tells what the wide search must say on one of 30,000.
+fn compare_enlarged(fault: Fault) -> Result<(), String> {
+    let look = Look { w: (20, 40), h: (20, 40), boards: 400 };
+    let factor = 750;
+    let (mut unit, mut wide) = (UnitMap::default(), WideMap::default());
+    for seed in 0..look.boards {
+        let scene = Scene::random(&mut Rng::new(seed), look);
+        let Frame { w, h, clearance } = scene.frame;
+        let large = Frame { w: factor * w, h: factor * h, clearance };
+        let enlarge = |block: &Rect| {
+            let Rect { x0, y0, x1, y1 } = *block;
+            Rect::new(factor * x0, factor * y0, factor * x1, factor * y1)
+        };
+        let blocks: Vec<Rect> = scene.blocks.iter().map(enlarge).collect();
+        unit.lay_out(&scene.frame, &scene.blocks);
+        wide.lay_out(&large, &blocks, fault);
+        let point = |p: &Point| Point::new(factor * p.x, factor * p.y);
+        for (s, t) in &scene.pins {
+            let small: Option<Vec<Point>> =
+                unit.shortest(*s, *t).map(|wire| wire.corners().iter().map(point).collect());
+            let large = wide.shortest(point(s), point(t)).map(|wire| wire.corners().to_vec());
+            if small != large {
+                return Err(format!("board {seed}: {small:?}, {large:?}"));
+            }
+        }
+    }
+    Ok(())
+}
+
+#[test]
+fn enlarged_boards_agree() {
+    assert_eq!(compare_enlarged(Fault::None), Ok(()));
+    assert!(compare_enlarged(Fault::OuterSides).is_err());
+}
+
+/// Whole files, so that wires with their boxes come in too.
+#[test]
+fn files_agree() {
+    for (style, files, records) in
+        [("small", 300, 200), ("flush", 100, 200), ("maze", 100, 200), ("history", 4, 1_500)]
+    {
+        let style = Style::named(style).expect("a style of the generator");
+        for seed in 1_000..1_000 + files {
+            let file = style.file(seed, records);
+            let unit = sheet_by(&file, Method::Unit, Fault::None);
+            let wide = sheet_by(&file, Method::Wide, Fault::None);
+            assert!(unit == wide, "{} {seed}: the sheets differ", style.name);
+        }
+    }
+}

@@ -1,0 +1,72 @@
+-- Demand 2 as it is seen on the board: what is true of every wire that is told, point for point.
+-- Assumes nothing.
+use Prim.Native.Nat.{ℕ, _+_, _*_, _≤_, _<_}
+use mathlib.Core.Path.{_≡_}
+use mathlib.Core.Logic.{_⊎_}
+use mathlib.Core.List.{List, [], _∷_}
+use lib.ListN.{length}
+use Rattle.paper.specs.declared.Pins.{Pins}
+use Rattle.paper.specs.declared.Id.{Id}
+use Rattle.paper.specs.declared.Reply.{Reply}
+use Rattle.paper.specs.declared.Record.{Record}
+use Rattle.paper.specs.declared.Record.the-variants.{Lay, Ask}
+use Rattle.paper.specs.Grid.{Node, Dir, step, Grid, Area, Any, All}
+use Rattle.paper.specs.Wire.{Legal, Answered, runs, manhattan, detour}
+use Rattle.paper.specs.Layout.{Thing, keep-out, wire, rectangle, gridOf, Layout}
+use Rattle.paper.specs.Answer.{source, target, way, written}
+
+-- ---- points
+
+-- Points of the plane, not nodes alone: p has its numbers counted in k-ths of a unit, for whatever k.
+-- It lies in the area, the rim included; strictly inside; and p and q are at least c apart, in x or in y.
+abbrev pub On : ℕ → Node → Area → Type 0
+On k p a = ((k * a .low .x ≤ p .x) × (p .x ≤ k * a .high .x)) × ((k * a .low .y ≤ p .y) × (p .y ≤ k * a .high .y))
+
+abbrev pub In : ℕ → Node → Area → Type 0
+In k p a = ((k * a .low .x < p .x) × (p .x < k * a .high .x)) × ((k * a .low .y < p .y) × (p .y < k * a .high .y))
+
+abbrev pub FarOn : ℕ → ℕ → ℕ → Type 0
+FarOn d a b = (a + d ≤ b) ⊎ (b + d ≤ a)
+
+abbrev pub Far : ℕ → ℕ → Node → Node → Type 0
+Far k c p q = FarOn (k * c) (p .x) (q .x) ⊎ FarOn (k * c) (p .y) (q .y)
+
+-- a point of the wire with these corners
+abbrev pub OnWire : ℕ → Node → List Node → Type 0
+OnWire k p ps = Any (On k p) (runs ps)
+
+-- the point enters no keep-out, and is at least c from every point of a laid wire
+unfoldable pub Shuns : ℕ → ℕ → Node → Thing → Type 0
+Shuns k c p (keep-out i r) = ¬ (In k p (rectangle r))
+Shuns k c p (wire i qs) = (q : Node) → OnWire k q qs → Far k c p q
+
+-- ---- the distance still to go
+
+-- from p, some legal wire to t has n steps, and none has fewer
+pub record ToGo (G : Grid) (t p : Node) (n : ℕ) : Type 0 where
+  pub by : List Dir
+  pub legal : Legal G p t by
+  pub long : length by ≡ n
+  pub least : (v : List Dir) → Legal G p t v → n ≤ length v
+
+-- from each node of the walk it is smaller than from the node before
+unfoldable pub Falls : Grid → Node → Node → List Dir → Type 0
+Falls G t p [] = Unit {0}
+Falls G t p (d ∷ w) = ((m : ℕ) × (n : ℕ) × ToGo G t p m × ToGo G t (step d p) n × (n < m)) × Falls G t (step d p) w
+
+-- ---- a wire that is told, laid or asked for
+
+pub data Routes : Record → Pins → Type 0 where
+  lay : {i : Id} {p : Pins} → Routes (Lay i p) p
+  ask : {p : Pins} → Routes (Ask p) p
+
+-- the reply r tells of the wire w, on the board l; s was lent and holds s′ afterwards
+pub record Copper (l : Layout) (p : Pins) (s s′ : List ℕ) (r : Reply) (w : List Dir) : Type 0 where
+  pub answered : Answered (gridOf (l .size) (l .items)) (source p) (target p) w
+  pub corners : s′ ≡ written (way p w) s
+  pub long : r .length ≡ length w
+  pub away : r .detour ≡ detour (target p) (source p) w
+  pub clear : (k : ℕ) (q : Node) → OnWire k q (way p w) → All (Shuns k (l .size .clearance) q) (l .items)
+  pub falls : Falls (gridOf (l .size) (l .items)) (target p) (source p) w
+  pub sum : r .length ≡ manhattan (source p) (target p) + 2 * r .detour
+  pub bits : r .length < 4294967296

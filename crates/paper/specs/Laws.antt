@@ -1,0 +1,34 @@
+-- What follows from the definitions: nothing here has to be believed.
+
+-- lists, items, unit steps
+pub mod Lists
+pub mod Among
+pub mod Apart
+pub mod Steps
+-- one answer to everything
+pub mod Least
+pub mod Read
+pub mod Back
+pub mod One
+-- an accepted record leaves a well-formed board
+pub mod Traced
+pub mod Next
+pub mod Kept
+pub mod Shape
+-- demand 3
+pub mod Story
+pub mod Alike
+-- demand 2: every wire that is told
+pub mod Points
+pub mod Detour
+pub mod Length
+pub mod Told
+-- tests that compute: Table P, and boards that are not well formed
+pub mod Says
+pub mod Tests
+pub mod Decided
+pub mod Certificate
+pub mod Distances
+pub mod Feeds
+pub mod TableP
+pub mod Damaged

@@ -1,0 +1,165 @@
+-- Table P, as a single statement over its list, by a test that is computed.
+-- Assumes nothing.
+use Prim.Native.Nat.{ℕ, _≤_}
+use native.Mathlib.Omega.{arith}
+use native.Mathlib.Nat.{add-zero}
+use mathlib.Core.Path.{_≡_, refl, ap}
+use mathlib.Core.Bool.{Bool, false, not, _&&_, _||_, cond}
+use mathlib.Core.Logic.{inl, inr}
+use mathlib.Core.List.{List}
+use lib.ListN.{length}
+use lib.Dec.{T, ltb, eqb}
+use Rattle.paper.specs.declared.Pins.{Pins}
+use Rattle.paper.specs.declared.Record.the-variants.{Ask}
+use Rattle.paper.specs.Limits.{most-runs, least-slice}
+use Rattle.paper.specs.Grid.{Node, Dir, Block, All, node}
+use Rattle.paper.specs.Wire.{turns, corners, runs, gap, manhattan, detour}
+use Rattle.paper.specs.Layout.{wires, blocksTo, Sound}
+use Rattle.paper.specs.Padding.{boardOf}
+use Rattle.paper.specs.Reading.{fieldsOf, Plain, Reads}
+use Rattle.paper.specs.Answer.{Gives, source, target, way, TooManyRuns, checks, Outcome, quiet, told, Does, written, Tells, Fed}
+use Rattle.paper.specs.TableP.{Row, layoutIn, asking, replyIn, Stands, tableP}
+use Rattle.paper.specs.Laws.Lists.{all-imp}
+use Rattle.paper.specs.Laws.Says.{Says, says-as, says-self, says-never, says-and, says-and₃, says-and₄, says-or, says-not, says-if, says-le, says-eq, says-all, listb, says-list}
+use Rattle.paper.specs.Laws.Tests.{nodeb, node-says, blockedb, blocked-says, onBoardb, on-board-says, soundb, sound-says}
+use Rattle.paper.specs.Laws.Certificate.{Table, look, routeb, none-by-table, by-table}
+use Rattle.paper.specs.Laws.Distances.{distances, steps}
+use Rattle.paper.specs.Laws.Feeds.{gives-none, gives-if, gives-unless, the-wire-says}
+
+abbrev blocksIn : Row → List Block
+blocksIn r = blocksTo (r .clearance) wires (r .items)
+
+reads : (p : Pins) → Reads (asking p) (Ask p)
+unfolding Reads Plain fieldsOf
+reads p =
+    inl (record {
+      twelve = refl;
+      plain = tt;
+      same = λ i. record {
+        kind = 4;
+        zero = 0;
+        id = 0;
+        a = add-zero (p .sx) i;
+        b = add-zero (p .sy) i;
+        c = add-zero (p .tx) i;
+        d = add-zero (p .ty) i;
+      };
+    })
+
+-- ---- a row that has what the outcome tells
+
+abbrev Claims : Row → Outcome → Type 0
+Claims r o = (r .long ≡ o .long) × (r .away ≡ o .away) × (r .turned ≡ o .turned)
+
+unfoldable claimsb : Row → Outcome → Bool
+unfolding nodeb listb
+claimsb r o = eqb (r .long) (o .long) && eqb (r .away) (o .away) && listb nodeb (r .turned) (o .turned)
+
+claims-says : (r : Row) (o : Outcome) → Says (claimsb r o) (Claims r o)
+unfolding claimsb
+claims-says r o = says-and₃ (says-eq _ _) (says-eq _ _) (says-list node-says _ _)
+
+tells : (r : Row) (o : Outcome) (s : List ℕ) → Claims r o
+    → Tells (o .long) (o .away) (o .turned) (boardOf (layoutIn r)) s (written (r .turned) s) (replyIn r)
+tells r o s c = record {
+  length-is = c .0;
+  detour-is = c .1;
+  corners-are = ap length (c .2);
+  board-is = refl;
+  slice-is = ap (λ ps. written ps s) (c .2);
+}
+
+-- ---- the test of a row, by a table of distances and a wire: whatever these are, a row that passes it stands
+
+module _ (r : Row) (tab : Table) (v : List Dir) where
+  abbrev here : Node
+  here = source (r .pins)
+
+  abbrev there : Node
+  there = target (r .pins)
+
+  abbrev outcome : Outcome
+  outcome = told (r .pins) v (layoutIn r)
+
+  abbrev routedb : Bool
+  routedb = routeb 10 10 (blocksIn r) tab here there v
+
+  -- the codes of an ask in their order, after 2 and 16
+  unfoldable codeIn : ℕ
+  codeIn =
+      cond (onBoardb (layoutIn r .size) here && onBoardb (layoutIn r .size) there)
+      (cond (nodeb here there) 10
+      (cond (blockedb (blocksIn r) (node here) || blockedb (blocksIn r) (node there)) 11
+      (cond (eqb (look tab here) 0) 12
+      (cond (ltb most-runs (length (runs (way (r .pins) v)))) 13 0)))) 9
+
+  gives : (n : ℕ) → least-slice ≤ n → T routedb → Gives (checks (layoutIn r) (Ask (r .pins)) n) codeIn
+  unfolding checks codeIn
+  gives n fits routed =
+      let none = none-by-table 10 10 (blocksIn r) tab here there v routed in
+      let wire = by-table 10 10 (blocksIn r) tab here there v routed in
+      gives-if {b = false} 2 _ _ (says-never (λ z. omega arith)) λ bounds.
+      gives-if {b = false} 16 _ _ (says-never (λ z. omega arith)) λ room.
+      gives-unless 9 _ _ (says-and (on-board-says _ _) (on-board-says _ _)) λ on.
+      gives-if 10 _ _ (node-says _ _) λ two.
+      gives-if 11 _ _ (says-or (blocked-says _ _) (blocked-says _ _)) λ clear.
+      gives-if 12 _ _ (says-as (none .0) (none .1) (says-eq _ _)) λ some.
+      gives-if 13 _ _ (the-wire-says (layoutIn r) (r .pins) (TooManyRuns (r .pins)) v (wire (λ z. some (none .0 z))) (says-le _ _)) λ few.
+      gives-none
+
+  record Passed : Type 0 where
+    sound : Sound (layoutIn r)
+    routed : T routedb
+    code : r .code ≡ codeIn
+    accepted : r .code ≡ 0 → (¬ (look tab here ≡ 0)) × Claims r outcome
+    refused : ¬ (r .code ≡ 0) → Claims r (quiet (layoutIn r))
+
+  unfoldable rowb : Bool
+  unfolding soundb routeb codeIn claimsb corners turns detour manhattan gap
+  rowb =
+      soundb (layoutIn r) && routedb && eqb (r .code) codeIn
+      && ((not (eqb (r .code) 0) || (not (eqb (look tab here) 0) && claimsb r outcome))
+      && (not (not (eqb (r .code) 0)) || claimsb r (quiet (layoutIn r))))
+
+  row-says : Says rowb Passed
+  unfolding rowb
+  row-says =
+      says-as (λ h. record { sound = h .0; routed = h .1; code = h .2; accepted = h .3 .0; refused = h .3 .1 })
+      (λ p. (p .sound, p .routed, p .code, (p .accepted, p .refused)))
+      (says-and₄ (sound-says (layoutIn r)) (says-self routedb) (says-eq _ _)
+      (says-and (says-if (says-eq _ _) (says-and (says-not (says-eq _ _)) (claims-says r outcome)))
+      (says-if (says-not (says-eq _ _)) (claims-says r (quiet (layoutIn r))))))
+
+  stands : Passed → Stands r
+  unfolding Stands Fed Does
+  stands p s fits =
+      inr (
+        layoutIn r,
+        Ask (r .pins),
+        record { sound = p .sound; same = refl },
+        reads (r .pins),
+        record {
+          code = rw (p .code) (gives (length s) fits (p .routed));
+          refused = λ n. tells r (quiet (layoutIn r)) s (p .refused n);
+          accepted = λ z. (
+            outcome,
+            (v, by-table 10 10 (blocksIn r) tab here there v (p .routed) (p .accepted z .0), refl),
+            tells r outcome s (p .accepted z .1),
+          );
+        },
+      )
+
+-- ---- the table
+
+-- the distances are computed, and the wire is the one with the row's corners
+abbrev tableIn : Row → Table
+tableIn r = distances 10 10 (blocksIn r) (target (r .pins))
+
+abbrev wireIn : Row → List Dir
+wireIn r = steps (r .turned)
+
+pub table-p : All Stands tableP
+unfolding rowb distances steps blocksTo
+table-p =
+    all-imp (λ r. Passed r (tableIn r) (wireIn r)) Stands (λ r. stands r (tableIn r) (wireIn r)) tableP
+    (says-all (λ r. row-says r (tableIn r) (wireIn r)) tableP .fact tt)

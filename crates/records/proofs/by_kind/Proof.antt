@@ -1,0 +1,51 @@
+-- `records::by_kind` meets its contract: each arm is its row.
+-- Assumes nothing.
+use borrow.Author.Needs.{needs}
+use Rattle.records.specs.Laws.{row-zero, row-rest}
+use Rattle.records.proofs.by_kind.Statement.{statement}
+use Rattle.records.proofs.by_kind.Tie as tie
+
+bounds-requires : tie.Need-bounds-requires
+bounds-requires c κs = search needs
+
+keep-out-requires : tie.Need-keep-out-requires
+keep-out-requires c κs = search needs
+
+lay-requires : tie.Need-lay-requires
+lay-requires c κs = search needs
+
+ask-requires : tie.Need-ask-requires
+ask-requires c κs = search needs
+
+take-out-requires : tie.Need-take-out-requires
+take-out-requires c κs = search needs
+
+undo-requires : tie.Need-undo-requires
+undo-requires c κs = search needs
+
+returns : tie.Need-returns
+returns c = rw (c .before .match .keys1) (c .bounds .ensures)
+
+returns-2 : tie.Need-returns-2
+returns-2 c = rw (c .before .match .keys2) (c .keep-out .ensures)
+
+returns-3 : tie.Need-returns-3
+returns-3 c = rw (c .before .match .keys3) (c .lay .ensures)
+
+returns-4 : tie.Need-returns-4
+returns-4 c = rw (c .before .match .keys4) (c .ask .ensures)
+
+returns-5 : tie.Need-returns-5
+returns-5 c = rw (c .before .match .keys5) (c .take-out .ensures)
+
+returns-6 : tie.Need-returns-6
+returns-6 c = rw (c .before .match .keys6) (c .undo .ensures)
+
+returns-7 : tie.Need-returns-7
+returns-7 c = rw (c .match .keys7) (row-zero _)
+
+returns-8 : tie.Need-returns-8
+returns-8 c = let r = c .match .rest in row-rest _ _ (r .1) (r .0 .0 .0 .0 .0 .0 .1) (r .0 .0 .0 .0 .0 .1) (r .0 .0 .0 .0 .1) (r .0 .0 .0 .1) (r .0 .0 .1) (r .0 .1)
+
+pub by-kind-spec : {M : Type 1} → statement M
+by-kind-spec = tie.close (tie.spec bounds-requires keep-out-requires lay-requires ask-requires take-out-requires undo-requires returns returns-2 returns-3 returns-4 returns-5 returns-6 returns-7 returns-8)
