@@ -1,0 +1,156 @@
+-- What a scan's answer says of the things that the arrays hold.
+-- Assumes nothing.
+use Prim.Native.Nat.{ℕ, zero, suc, _<_}
+use native.Mathlib.Nat.{eq-or-lt-of-le}
+use native.Mathlib.Omega.{arith}
+use mathlib.Core.Path.{_≡_, refl, sym, ap, subst}
+use mathlib.Core.Bool.{true}
+use mathlib.Core.Logic.{inl, inr, ⊎-elim}
+use mathlib.Core.List.{List, [], _∷_}
+use lib.ListN.{length}
+use lib.Dec.{T}
+use Rattle.paper.specs.declared.Rect.{Rect}
+use Rattle.paper.specs.Grid.{Any, Hits, Blocked}
+use Rattle.paper.specs.Layout.{Thing, keep-out, wire, Sort, keep-outs, wires, sortOf, blocksOf, blocksTo, Layout}
+use Rattle.paper.specs.Answer.{Enters}
+use Rattle.paper.specs.Laws.Lists.{any-imp, any-split}
+use Rattle.paper.specs.Laws.Among.{ltb-cases}
+use Rattle.paper.specs.Laws.Apart.{blocked-left, blocked-right}
+use Rattle.blocks.specs.declared.Blocks.{Blocks}
+use Rattle.blocks.specs.declared.Place.{Place}
+use Rattle.blocks.specs.declared.Look.{Look}
+use Rattle.blocks.specs.declared.Look.the-variants.{KeepOuts, Wires, Either}
+use Rattle.blocks.specs.declared.Found.{Found}
+use Rattle.blocks.specs.declared.Found.the-variants.{At, Nothing}
+use Rattle.blocks.specs.Flat.{placeArea, looked, Stops, FirstIs, isWire, Held, HeldOf}
+use Rattle.blocks.specs.Laws.Held.{thingAt, items-are, held-wire, held-blocks}
+
+-- ---- one answer
+
+pub one-found : (b : Blocks) (look : Look) (p : Place) (r q : Found) → FirstIs b look p r → FirstIs b look p q → r ≡ q
+unfolding FirstIs
+one-found b look p (At i) (At j) f g =
+    ⊎-elim (λ h. absurd (g .1 i (h .0) (f .0)))
+    (λ h. ⊎-elim (λ e. ap At (sym e)) (λ l. absurd (f .1 j l (g .0))) (eq-or-lt-of-le (h .0))) (ltb-cases i j)
+one-found b look p (At i) Nothing f g = absurd (g i (f .0))
+one-found b look p Nothing (At j) f g = absurd (f j (g .0))
+one-found b look p Nothing Nothing f g = refl
+
+-- ---- the first of the things
+
+-- the first thing with the property stands at place i
+unfoldable pub FirstOf : (Thing → Type 0) → List Thing → ℕ → Type 0
+FirstOf P [] i = ⊥
+FirstOf P (t ∷ ts) zero = P t
+FirstOf P (t ∷ ts) (suc i) = (¬ (P t)) × FirstOf P ts i
+
+-- that place was found, or no thing has the property
+unfoldable pub FoundAmong : (Thing → Type 0) → List Thing → Found → Type 0
+FoundAmong P ts (At i) = FirstOf P ts i
+FoundAmong P ts Nothing = ¬ (Any P ts)
+
+module _ (P : Thing → Type 0) where
+  first-of : (ts : List Thing) (i : ℕ) → i < length ts → P (thingAt ts i) → ((j : ℕ) → j < i → ¬ (P (thingAt ts j))) → FirstOf P ts i
+  unfolding FirstOf
+  first-of [] i h p n = absurd (omega arith)
+  first-of (t ∷ ts) zero h p n = p
+  first-of (t ∷ ts) (suc i) h p n = (n 0 (omega arith), first-of ts i (omega arith) p (λ j l. n (suc j) (omega arith)))
+
+  some-at : (ts : List Thing) → Any P ts → (i : ℕ) × (i < length ts) × P (thingAt ts i)
+  unfolding Any
+  some-at [] a = absurd a
+  some-at (t ∷ ts) (inl p) = (0, omega arith, p)
+  some-at (t ∷ ts) (inr a) = let s = some-at ts a in (suc (s .0), omega (arith, s .1), s .2)
+
+  first-any : (ts : List Thing) (i : ℕ) → FirstOf P ts i → Any P ts
+  unfolding FirstOf Any
+  first-any [] i f = f
+  first-any (t ∷ ts) zero f = inl f
+  first-any (t ∷ ts) (suc i) f = inr (first-any ts i (f .1))
+
+-- the thing counts and blocks the place
+unfoldable pub StopsAt : ℕ → Sort → Look → Place → Thing → Type 0
+StopsAt c to look p t = (looked look (isWire t) ≡ true) × Blocked (blocksOf c to t) (placeArea p)
+
+module _ {b : Blocks} {c : ℕ} {to : Sort} {ts : List Thing} (held : Held b c to ts) (look : Look) (p : Place) where
+  stops-thing : (i : ℕ) → Stops b look p i → (i < length ts) × StopsAt c to look p (thingAt ts i)
+  unfolding Stops StopsAt
+  stops-thing i s =
+      let h : i < length ts = rw (held .same, items-are) at (s .0) in
+      (h, (rw (held-wire held i) at (s .1), subst (λ bs. Blocked bs (placeArea p)) (held-blocks held i h) (s .2)))
+
+  thing-stops : (i : ℕ) → i < length ts → StopsAt c to look p (thingAt ts i) → Stops b look p i
+  unfolding Stops StopsAt
+  thing-stops i h s = (
+    rw (held .same, items-are) h,
+    rw (held-wire held i) (s .0),
+    subst (λ bs. Blocked bs (placeArea p)) (sym (held-blocks held i h)) (s .1),
+  )
+
+  -- the thing that is found is the first, so that its id can be told
+  pub scan-item : (r : Found) → FirstIs b look p r → FoundAmong (StopsAt c to look p) ts r
+  unfolding FirstIs FoundAmong
+  scan-item (At i) f =
+      let s = stops-thing i (f .0) in
+      first-of (StopsAt c to look p) ts i (s .0) (s .1) (λ j l q. f .1 j l (thing-stops j (omega (arith, s .0)) q))
+  scan-item Nothing f = λ a. let s = some-at (StopsAt c to look p) ts a in f (s .0) (thing-stops (s .0) (s .1) (s .2))
+
+-- ---- whether something is blocked
+
+-- an item was found just if P
+abbrev pub Whether : Found → Type 0 → Type 0
+Whether (At i) P = P
+Whether Nothing P = ¬ P
+
+whether-any : (P : Thing → Type 0) (Q : Type 0) (ts : List Thing) (r : Found) → (Any P ts → Q) → (Q → Any P ts) → FoundAmong P ts r
+    → Whether r Q
+unfolding FoundAmong
+whether-any P Q ts (At i) to from f = to (first-any P ts i f)
+whether-any P Q ts Nothing to from f = λ q. f (from q)
+
+module _ (c : ℕ) (to : Sort) (p : Place) where
+  any-blocked : (ts : List Thing) → Any (StopsAt c to Either p) ts → Blocked (blocksTo c to ts) (placeArea p)
+  unfolding Any StopsAt blocksTo
+  any-blocked [] a = absurd a
+  any-blocked (t ∷ ts) (inl s) = blocked-left (blocksOf c to t) (blocksTo c to ts) (placeArea p) (s .1)
+  any-blocked (t ∷ ts) (inr a) = blocked-right (blocksOf c to t) (blocksTo c to ts) (placeArea p) (any-blocked ts a)
+
+  blocked-any : (ts : List Thing) → Blocked (blocksTo c to ts) (placeArea p) → Any (StopsAt c to Either p) ts
+  unfolding Any StopsAt blocksTo Blocked
+  blocked-any [] h = absurd h
+  blocked-any (t ∷ ts) h =
+      ⊎-elim (λ q. inl (refl, q)) (λ q. inr (blocked-any ts q)) (any-split (λ b. Hits b (placeArea p)) (blocksOf c to t) (blocksTo c to ts) h)
+
+-- by any item: a pin's node, a unit edge
+pub scan-blocked : {b : Blocks} {c : ℕ} {to : Sort} {ts : List Thing} → Held b c to ts → (p : Place) (r : Found) → FirstIs b Either p r
+    → Whether r (Blocked (blocksTo c to ts) (placeArea p))
+scan-blocked {c} {to} {ts} held p r f =
+    whether-any (StopsAt c to Either p) _ ts r (any-blocked c to p ts) (blocked-any c to p ts) (scan-item held Either p r f)
+
+-- ---- codes 7 and 8
+
+abbrev pub lookFor : Sort → Look
+lookFor keep-outs = KeepOuts
+lookFor wires = Wires
+
+abbrev pub rectPlace : Rect → Place
+rectPlace r = record { x0 = r .x0; y0 = r .y0; x1 = r .x1; y1 = r .y1 }
+
+looked-sort : (s : Sort) (t : Thing) → looked (lookFor s) (isWire t) ≡ true → sortOf t ≡ s
+looked-sort keep-outs (keep-out i r) e = refl
+looked-sort keep-outs (wire i ps) e = absurd (subst T (sym e) tt)
+looked-sort wires (keep-out i r) e = absurd (subst T (sym e) tt)
+looked-sort wires (wire i ps) e = refl
+
+own-sort : (t : Thing) → looked (lookFor (sortOf t)) (isWire t) ≡ true
+own-sort (keep-out i r) = refl
+own-sort (wire i ps) = refl
+
+pub scan-enters : {b : Blocks} (l : Layout) → HeldOf b keep-outs l → (q : Rect) (s : Sort) (r : Found)
+    → FirstIs b (lookFor s) (rectPlace q) r → Whether r (Enters l q s)
+unfolding Enters StopsAt
+scan-enters l held q s r f =
+    whether-any (StopsAt (l .size .clearance) keep-outs (lookFor s) (rectPlace q)) _ (l .items) r
+    (any-imp _ _ (λ t h. (looked-sort s t (h .0), h .1)) (l .items))
+    (any-imp _ _ (λ t h. (subst (λ s. looked (lookFor s) (isWire t) ≡ true) (h .0) (own-sort t), h .1)) (l .items))
+    (scan-item held (lookFor s) (rectPlace q) r f)

@@ -1,0 +1,6 @@
+-- What a reader must believe of the arrays and of the scan
+pub mod Flat
+-- how the arrays are filled
+pub mod Growing
+-- and what follows
+pub mod Laws

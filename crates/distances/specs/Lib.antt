@@ -1,0 +1,10 @@
+pub mod Lower
+pub mod Going
+pub mod Sweep
+pub mod Sweeping
+pub mod Settle
+pub mod Settling
+pub mod Ways
+pub mod Reached
+pub mod Found
+pub mod Start

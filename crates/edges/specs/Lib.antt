@@ -1,0 +1,5 @@
+pub mod Ranges
+pub mod Marks
+pub mod Laws
+pub mod Shut
+pub mod One

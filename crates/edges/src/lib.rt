@@ -1,0 +1,168 @@
+// Which ways between neighbouring crossings are shut: marked block by block, a rectangle of marks each.
+ghost use mathlib.Core.Path.{_≡_};
+ghost use mathlib.Core.Bool.{Bool};
+ghost use Prim.Native.Nat.{ℕ, _+_, _*_, _<_, _≤_};
+ghost use lib.ListN.{length, getD};
+ghost use Rattle.edges.specs.Ranges.{Rising, Below, Meeting};
+ghost use Rattle.paper.specs.Grid.{level, upright};
+ghost use Rattle.edges.specs.Marks.{Filled, Boxed, block, boxAt, Shuts, Added, Blank, Marked};
+
+// From one track up to another, which is not in it.
+pub struct Range {
+    pub from: usize,
+    pub to: usize,
+}
+
+// The area from (x0, y0) to (x1, y1), widened by c on all four sides.
+pub struct Box {
+    pub x0: u16,
+    pub y0: u16,
+    pub x1: u16,
+    pub y1: u16,
+    pub c: u16,
+}
+
+fn wide(x: u16) -> u32
+    ensures { λ r. ⌜ r ≡ x ⌝ }
+{
+    x as u32
+}
+
+// How many tracks lie below v.
+fn below(at: &[u16; 96], count: usize, v: u32) -> usize
+    requires { ⌜ count ≤ 96 ⌝ }
+    ensures { λ r. ⌜ Below (now (at .entry)) count v r ⌝ }
+{
+    let mut i: usize = 0;
+    while i < count {
+        if wide(at[i]) >= v {
+            return i;
+        }
+        i += 1;
+    }
+    i
+}
+
+// What is left of a, or 0.
+fn less(a: u32, b: u32) -> u32
+    ensures { λ r. ⌜ r ≡ Prim.Native.Nat._-_ a b ⌝ }
+{
+    if a < b { 0 } else { a - b }
+}
+
+// The tracks that lie in the open interval from lo - c to hi + c; of slabs, told by their low track, those that it meets.
+fn met(at: &[u16; 96], count: usize, lo: u16, hi: u16, c: u16, slab: bool) -> Range
+    requires { ⌜ (count ≤ 96) × Rising (now at) count ⌝ }
+    ensures { λ r. ⌜ Meeting (now (at .entry)) count lo hi c slab r ⌝ }
+{
+    let m = wide(c);
+    let mut low = wide(lo);
+    if !slab {
+        low = low + 1;
+    }
+    let from = below(at, count, less(low, m));
+    let to = below(at, count, wide(hi) + m);
+    Range { from, to }
+}
+
+// Marks a row of places.
+fn mark_row(shut: &mut [u8; 9216], from: usize, to: usize)
+    requires { ⌜ (length (now shut) ≡ 9216) × (to ≤ 9216) ⌝ }
+    ensures { λ _. ⌜ Filled (now (shut .entry)) (now (shut .exit)) from to ⌝ }
+{
+    let mut k = from;
+    while k < to {
+        shut[k] = 1;
+        k += 1;
+    }
+}
+
+// Marks a rectangle of crossings.
+fn mark(shut: &mut [u8; 9216], x: Range, y: Range)
+    requires { ⌜ (length (now shut) ≡ 9216) × (x .from ≤ 96) × (x .to ≤ 96) × (y .to ≤ 96) ⌝ }
+    ensures { λ _. ⌜ Boxed (now (shut .entry)) (now (shut .exit)) x y ⌝ }
+{
+    let mut j = y.from;
+    while j < y.to {
+        mark_row(shut, x.from + j * 96, x.to + j * 96);
+        j += 1;
+    }
+}
+
+// Marks the ways that one block shuts: level ones, told by their left crossing, and upright ones, told by the one below.
+fn mark_block(
+    flat: &mut [u8; 9216],
+    tall: &mut [u8; 9216],
+    xs: &[u16; 96],
+    nx: usize,
+    ys: &[u16; 96],
+    ny: usize,
+    b: Box,
+)
+    requires { ⌜ (length (now flat) ≡ 9216) × (length (now tall) ≡ 9216) × (nx ≤ 96) × (ny ≤ 96) × Rising (now xs) nx × Rising (now ys) ny ⌝ }
+    ensures { λ _. ⌜ Added (now (flat .entry)) (now (flat .exit)) nx ny (Shuts level (block b) (now (xs .entry)) (now (ys .entry))) ×
+        Added (now (tall .entry)) (now (tall .exit)) nx ny (Shuts upright (block b) (now (xs .entry)) (now (ys .entry))) ⌝ }
+{
+    let slabs_x = met(xs, nx, b.x0, b.x1, b.c, true);
+    let tracks_y = met(ys, ny, b.y0, b.y1, b.c, false);
+    mark(flat, slabs_x, tracks_y);
+    let tracks_x = met(xs, nx, b.x0, b.x1, b.c, false);
+    let slabs_y = met(ys, ny, b.y0, b.y1, b.c, true);
+    mark(tall, tracks_x, slabs_y);
+}
+
+// The boxes, n of them: as the arrays have them.
+fn box_at(
+    x0: &[u16; 46],
+    y0: &[u16; 46],
+    x1: &[u16; 46],
+    y1: &[u16; 46],
+    c: &[u16; 46],
+    k: usize,
+) -> Box
+    requires { ⌜ k < 46 ⌝ }
+    ensures { λ r. ⌜ block r ≡ boxAt (now (x0 .entry)) (now (y0 .entry)) (now (x1 .entry)) (now (y1 .entry)) (now (c .entry)) k ⌝ }
+{
+    Box {
+        x0: x0[k],
+        y0: y0[k],
+        x1: x1[k],
+        y1: y1[k],
+        c: c[k],
+    }
+}
+
+// Marks the ways that n blocks shut, on two tables without marks.
+pub fn edges(
+    flat: &mut [u8; 9216],
+    tall: &mut [u8; 9216],
+    xs: &[u16; 96],
+    nx: usize,
+    ys: &[u16; 96],
+    ny: usize,
+    x0: &[u16; 46],
+    y0: &[u16; 46],
+    x1: &[u16; 46],
+    y1: &[u16; 46],
+    c: &[u16; 46],
+    n: usize,
+)
+    requires { ⌜ Blank (now flat) × Blank (now tall) × (nx ≤ 96) × (ny ≤ 96) × (n ≤ 46) × Rising (now xs) nx × Rising (now ys) ny ⌝ }
+    ensures { λ _. ⌜ Marked level (now (flat .exit)) (now (xs .entry)) nx (now (ys .entry)) ny (boxAt (now (x0 .entry)) (now (y0 .entry))
+        (now (x1 .entry)) (now (y1 .entry)) (now (c .entry))) n ×
+        Marked upright (now (tall .exit)) (now (xs .entry)) nx (now (ys .entry)) ny (boxAt (now (x0 .entry)) (now (y0 .entry))
+        (now (x1 .entry)) (now (y1 .entry)) (now (c .entry))) n ⌝ }
+{
+    let mut k: usize = 0;
+    while k < n {
+        mark_block(flat, tall, xs, nx, ys, ny, box_at(x0, y0, x1, y1, c, k));
+        k += 1;
+    }
+}
+
+// A table without marks.
+pub fn blank() -> [u8; 9216]
+    ensures { λ r. ⌜ Blank r ⌝ }
+{
+    [0u8; 9216]
+}

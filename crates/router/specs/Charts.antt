@@ -1,0 +1,177 @@
+-- The chart of marked ways is the grid of crossings, and a table of distances over it is what the theorems of `walks` ask of a search.
+-- Assumes nothing.
+use Prim.Native.Nat.{ℕ, suc, pred, _+_, _-_, _≤_, _<_}
+use native.Mathlib.Numerals.{add-one}
+use native.Mathlib.Omega.{arith}
+use mathlib.Core.Path.{_≡_, refl, sym, ap, subst, _∙_}
+use mathlib.Core.Logic.{_↔_}
+use mathlib.Core.List.{List, _++_}
+use lib.ListN.{getD, replicate}
+use Rattle.paper.specs.Grid.{Node, Dir, E, N, W, S, step, Axis, level, upright, Grid, Edge, Free, Block, Blocked, edge, gridWith}
+use Rattle.paper.specs.Wire.{gap}
+use Rattle.distances.specs.Lower.{none}
+use Rattle.distances.specs.Ways as ways
+use Rattle.distances.specs.Ways.{cell, Map, Way, east, west, north, south, Distances}
+use Rattle.trace.specs.Trail as trail
+use Rattle.trace.specs.Trail.{chart, distance, marks}
+use Rattle.walks.specs.Tracks.{Tracks, Rising}
+use Rattle.walks.specs.Crossings.{crossings, far}
+use Rattle.walks.specs.Trace as walk
+use Rattle.walks.specs.Trace.{Searched}
+use Rattle.walks.specs.Route.{tracks}
+
+-- the tracks of a list
+abbrev pub tracksIn : List ℕ → ℕ → Tracks
+tracksIn xs n = record { last = n - 1; track = λ i. getD xs i 0 }
+
+-- what is asked of the lists: rising tracks from side to side, and marks just where the first unit edge of a way is blocked
+pub record Marks (w h : ℕ) (bs : List Block) (m : Map) : Type 0 where
+  pub nx-some : 1 ≤ m .nx
+  pub ny-some : 1 ≤ m .ny
+  pub rise-x : Rising (tracksIn (m .xs) (m .nx)) w
+  pub rise-y : Rising (tracksIn (m .ys) (m .ny)) h
+  pub clear : (a : Axis) (i j : ℕ) → i < m .nx → j < m .ny
+      → (getD (marks m a) (cell i j) 0 ≡ 0) ↔ (¬ (Blocked bs (edge a (record { x = getD (m .xs) i 0; y = getD (m .ys) j 0 }))))
+
+module _ (w h : ℕ) (bs : List Block) (m : Map) (k : Marks w h bs m) where
+  abbrev G : Grid
+  G = gridWith w h bs
+
+  abbrev T : Axis → Tracks
+  T = tracks (tracksIn (m .xs) (m .nx)) (tracksIn (m .ys) (m .ny))
+
+  -- ---- the same ways are open
+
+  edge-iff : (a : Axis) (q : Node) → Edge (chart m) a q ↔ Edge (crossings T G) a q
+  unfolding Edge
+  edge-iff level q = (
+    λ f. (f .0, f .1, k .clear level (q .x) (q .y) (omega (arith, f .0)) (omega (arith, f .1, k .ny-some)) .0 (f .2)),
+    λ f. (f .0, f .1, k .clear level (q .x) (q .y) (omega (arith, f .0)) (omega (arith, f .1, k .ny-some)) .1 (f .2)),
+  )
+  edge-iff upright q = (
+    λ f. (f .0, f .1, k .clear upright (q .x) (q .y) (omega (arith, f .0, k .nx-some)) (omega (arith, f .1)) .0 (f .2)),
+    λ f. (f .0, f .1, k .clear upright (q .x) (q .y) (omega (arith, f .0, k .nx-some)) (omega (arith, f .1)) .1 (f .2)),
+  )
+
+  pub free-iff : (q : Node) (e : Dir) → Free (chart m) q e ↔ Free (crossings T G) q e
+  unfolding Free
+  free-iff q E = edge-iff level q
+  free-iff q N = edge-iff upright q
+  free-iff q W = let i = edge-iff level (step W q) in (λ f. (f .0, i .0 (f .1)), λ f. (f .0, i .1 (f .1)))
+  free-iff q S = let i = edge-iff upright (step S q) in (λ f. (f .0, i .0 (f .1)), λ f. (f .0, i .1 (f .1)))
+
+  -- and as long
+  pub far-same : (q : Node) (e : Dir) → Free (chart m) q e → trail.far m e q ≡ far T e q
+  unfolding trail.far far gap Free Edge step
+  far-same q E f =
+      let z : getD (m .xs) (q .x + 1) 0 ≡ getD (m .xs) (suc (q .x)) 0 = ap (λ n. getD (m .xs) n 0) (add-one (q .x)) in
+      omega (arith, z, k .rise-x .inc (q .x) (f .0))
+  far-same q N f =
+      let z : getD (m .ys) (q .y + 1) 0 ≡ getD (m .ys) (suc (q .y)) 0 = ap (λ n. getD (m .ys) n 0) (add-one (q .y)) in
+      omega (arith, z, k .rise-y .inc (q .y) (f .1))
+  far-same q W f =
+      let z : getD (m .xs) (suc (pred (q .x))) 0 ≡ getD (m .xs) (q .x) 0 = ap (λ n. getD (m .xs) n 0) (let e : suc (pred (q .x)) ≡ q .x = omega (arith, f .0) in e) in
+      omega (arith, z, k .rise-x .inc (pred (q .x)) (f .1 .0))
+  far-same q S f =
+      let z : getD (m .ys) (suc (pred (q .y))) 0 ≡ getD (m .ys) (q .y) 0 = ap (λ n. getD (m .ys) n 0) (let e : suc (pred (q .y)) ≡ q .y = omega (arith, f .0) in e) in
+      omega (arith, z, k .rise-y .inc (pred (q .y)) (f .1 .1))
+
+  -- ---- the same directions lead nearer, by the same trail
+
+  module _ (d : List ℕ) where
+    abbrev D : Node → ℕ
+    D q = distance d q
+
+    leads-iff : (q : Node) (e : Dir) → trail.Leads m d q e ↔ walk.Leads G T D q e
+    leads-iff q e = (
+      λ l. record { clear = free-iff q e .0 (l .clear); nearer = rw (far-same q e (l .clear)) at (l .nearer) },
+      λ l. let f = free-iff q e .1 (l .clear) in record { clear = f; nearer = rw (far-same q e f) (l .nearer) },
+    )
+
+    pub trail-of : (g q : Node) (v : List Dir) → walk.Trace G T D g q v → trail.Trail m d g q v
+    trail-of g q v walk.stop = trail.stop
+    trail-of g q v (walk.go {d = e} {rest = rest} l others t) =
+        let k = leads-iff q e .1 l in
+        subst (λ n. trail.Trail m d g q (replicate n e ++ rest)) (far-same q e (k .clear))
+        (trail.go k (λ f r z. others f r (leads-iff q f .0 z)) (trail-of g (step e q) rest t))
+
+    -- ---- an open way is a step on the chart
+
+    way-of : (q : Node) (e : Dir) → Free (chart m) q e → Way m (q .x) (q .y) (step e q .x) (step e q .y) (trail.far m e q)
+    unfolding Free Edge step trail.far
+    way-of q E f =
+        subst (λ i. Way m (q .x) (q .y) i (q .y) (getD (m .xs) (q .x + 1) 0 - getD (m .xs) (q .x) 0)) (add-one (q .x))
+        (east (omega (arith, f .0)) (omega (arith, f .1, k .ny-some)) (f .2))
+    way-of q N f =
+        subst (λ j. Way m (q .x) (q .y) (q .x) j (getD (m .ys) (q .y + 1) 0 - getD (m .ys) (q .y) 0)) (add-one (q .y))
+        (north (omega (arith, f .0, k .nx-some)) (omega (arith, f .1)) (f .2))
+    way-of q W f =
+        let z : pred (q .x) + 1 ≡ q .x = omega (arith, f .0) in
+        subst (λ i. Way m i (q .y) (pred (q .x)) (q .y) (getD (m .xs) i 0 - getD (m .xs) (pred (q .x)) 0)) z
+        (west (let n : pred (q .x) + 1 < m .nx = omega (arith, f .1 .0) in n) (omega (arith, f .1 .1, k .ny-some)) (f .1 .2))
+    way-of q S f =
+        let z : pred (q .y) + 1 ≡ q .y = omega (arith, f .0) in
+        subst (λ j. Way m (q .x) j (q .x) (pred (q .y)) (getD (m .ys) j 0 - getD (m .ys) (pred (q .y)) 0)) z
+        (south (omega (arith, f .1 .0, k .nx-some)) (let n : pred (q .y) + 1 < m .ny = omega (arith, f .1 .1) in n) (f .1 .2))
+
+    -- and the other way round
+    pub record Stepped (i j i′ j′ n : ℕ) : Type 0 where
+      pub dir : Dir
+      pub free : Free (chart m) (record { x = i; y = j }) dir
+      pub there : step dir (record { x = i; y = j }) ≡ record { x = i′; y = j′ }
+      pub long : trail.far m dir (record { x = i; y = j }) ≡ n
+
+    step-of : (i j i′ j′ n : ℕ) → Way m i j i′ j′ n → Stepped i j i′ j′ n
+    unfolding Free Edge step trail.far
+    step-of i j i′ j′ n (east {i = u} {j = v} p q r) = record {
+      dir = E;
+      free = (omega arith, omega arith, r);
+      there = (let e = sym (add-one u) in λ t. record { x = e t; y = v });
+      long = refl;
+    }
+    step-of i j i′ j′ n (north {i = u} {j = v} p q r) = record {
+      dir = N;
+      free = (omega arith, omega arith, r);
+      there = (let e = sym (add-one v) in λ t. record { x = u; y = e t });
+      long = refl;
+    }
+    step-of i j i′ j′ n (west {i = u} {j = v} p q r) =
+        let e : pred (u + 1) ≡ u = omega arith in
+        record {
+          dir = W;
+          free = (omega arith, ((let z : pred (u + 1) < m .nx - 1 = omega arith in z), omega arith, rw e r));
+          there = λ t. record { x = e t; y = v };
+          long = ap (λ s. getD (m .xs) (u + 1) 0 - getD (m .xs) s 0) e;
+        }
+    step-of i j i′ j′ n (south {i = u} {j = v} p q r) =
+        let e : pred (v + 1) ≡ v = omega arith in
+        record {
+          dir = S;
+          free = (omega arith, (omega arith, (let z : pred (v + 1) < m .ny - 1 = omega arith in z), rw e r));
+          there = λ t. record { x = u; y = e t };
+          long = ap (λ s. getD (m .ys) (v + 1) 0 - getD (m .ys) s 0) e;
+        }
+
+    -- ---- so a table of distances is what a search leaves behind
+
+    module _ (a b : ℕ) (t : Distances m a b d) where
+      source-of : (q : Node) → q .x < m .nx → q .y < m .ny → D q < none → ¬ (q ≡ record { x = a; y = b })
+          → (e : Dir) × Free (crossings T G) q e × (D (step e q) + far T e q ≤ D q)
+      source-of q hx hy r ne =
+          let o = t .nearer (q .x) (q .y) hx hy r (λ s. ne (λ k. record { x = s .0 k; y = s .1 k })) in
+          let s = step-of (q .x) (q .y) (o .0) (o .1) (o .2) (o .3) in
+          let there : D (step (s .dir) q) ≡ getD d (cell (o .0) (o .1)) 0 = ap D (s .there) in
+          let long : far T (s .dir) q ≡ o .2 = sym (far-same q (s .dir) (s .free)) ∙ s .long in
+          (s .dir, free-iff q (s .dir) .0 (s .free), omega (arith, there, long, o .4))
+
+      pub searched : a < m .nx → b < m .ny → Searched G T D none (record { x = a; y = b })
+      searched ha hb = record {
+        on = (omega arith, omega arith);
+        some = omega arith;
+        here = t .target;
+        settled = λ e q f r.
+            let c = free-iff q e .1 f in
+            let n = t .near (q .x) (q .y) (step e q .x) (step e q .y) (trail.far m e q) (way-of q e c) r in
+            (n .0, rw (far-same q e c) at (n .1));
+        source = λ q i r ne. source-of q (omega (arith, i .0, k .nx-some)) (omega (arith, i .1, k .ny-some)) r ne;
+      }

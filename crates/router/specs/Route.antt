@@ -1,0 +1,83 @@
+-- What the router answers, in the paper's words.
+-- Assumes nothing.
+use Prim.Native.Nat.{ℕ, _≤_, _<_}
+use mathlib.Core.Path.{_≡_}
+use mathlib.Core.Logic.{_↔_}
+use mathlib.Core.List.{List, [], map}
+use lib.ListN.{length}
+use Rattle.paper.specs.declared.Size.{Size}
+use Rattle.paper.specs.declared.Pins.{Pins}
+use Rattle.paper.specs.Limits.{most-runs, most-corners}
+use Rattle.paper.specs.Grid.{Node, Dir, Grid, Block, Blocked, node}
+use Rattle.paper.specs.Wire.{Legal, Answered, corners, runs, detour}
+use Rattle.paper.specs.Layout.{InRange, OnBoard}
+use Rattle.paper.specs.Padding.{filled}
+use Rattle.paper.specs.Answer.{source, target}
+use Rattle.router.specs.declared.Routed.{Routed}
+use Rattle.router.specs.declared.Route.{Route}
+use Rattle.router.specs.declared.Route.the-variants.{Wire, NoWire, TooManyRuns}
+
+-- ---- the paper's number and values for each case
+
+abbrev pub codeOf : Route → ℕ
+codeOf (Wire n d k) = 0
+codeOf NoWire = 12
+codeOf TooManyRuns = 13
+
+abbrev pub lengthOf : Route → ℕ
+lengthOf (Wire n d k) = n
+lengthOf NoWire = 0
+lengthOf TooManyRuns = 0
+
+abbrev pub detourOf : Route → ℕ
+detourOf (Wire n d k) = d
+detourOf NoWire = 0
+detourOf TooManyRuns = 0
+
+abbrev pub cornersOf : Route → ℕ
+cornersOf (Wire n d k) = k
+cornersOf NoWire = 0
+cornersOf TooManyRuns = 0
+
+-- ---- what is answered
+
+-- the word that is answered, and how many runs it has
+abbrev pub Few : Grid → Node → Node → List Dir → Type 0
+Few G s t w = Answered G s t w × (length (runs (corners s w)) ≤ most-runs)
+
+abbrev pub Many : Grid → Node → Node → List Dir → Type 0
+Many G s t w = Answered G s t w × (most-runs < length (runs (corners s w)))
+
+unfoldable pub Found : Grid → Node → Node → Route → Type 0
+Found G s t (Wire n d k) = (w : List Dir) × Few G s t w × (n ≡ length w) × (d ≡ detour t s w) × (k ≡ length (corners s w))
+Found G s t NoWire = (w : List Dir) → ¬ (Legal G s t w)
+Found G s t TooManyRuns = (w : List Dir) × Many G s t w
+
+-- the corners that are written: the wire's, or none
+unfoldable pub Written : Grid → Node → Node → Route → List Node → Type 0
+Written G s t (Wire n d k) ps = (w : List Dir) × Answered G s t w × (ps ≡ corners s w)
+Written G s t NoWire ps = ps ≡ []
+Written G s t TooManyRuns ps = ps ≡ []
+
+pub record Answers (G : Grid) (s t : Node) (r : Routed) : Type 0 where
+  pub found : Found G s t (r .route)
+  pub turned : List Node
+  pub written : Written G s t (r .route) turned
+  pub xs-are : r .xs ≡ filled 0 most-corners (map (λ p. p .x) turned)
+  pub ys-are : r .ys ≡ filled 0 most-corners (map (λ p. p .y) turned)
+
+-- the same by the paper's numbers: each code exactly where it applies, and the values that go with it
+pub record ByCode (G : Grid) (s t : Node) (r : Route) : Type 0 where
+  pub few : (codeOf r ≡ 0) ↔ ((w : List Dir) × Few G s t w)
+  pub none : (codeOf r ≡ 12) ↔ ((w : List Dir) → ¬ (Legal G s t w))
+  pub many : (codeOf r ≡ 13) ↔ ((w : List Dir) × Many G s t w)
+  pub values : (w : List Dir) → Few G s t w → (lengthOf r ≡ length w) × (detourOf r ≡ detour t s w) × (cornersOf r ≡ length (corners s w))
+  pub silent : ¬ (codeOf r ≡ 0) → (lengthOf r ≡ 0) × (detourOf r ≡ 0) × (cornersOf r ≡ 0)
+
+-- ---- what is asked: two different pins on the board that are not blocked
+
+pub record Asked (s : Size) (bs : List Block) (p : Pins) : Type 0 where
+  pub range : InRange s
+  pub on : OnBoard s (source p) × OnBoard s (target p)
+  pub two : ¬ (source p ≡ target p)
+  pub clear : (¬ (Blocked bs (node (source p)))) × (¬ (Blocked bs (node (target p))))

@@ -1,0 +1,206 @@
+// From blocks and two pins to the answered wire.
+use blocks::Blocks;
+use distances::distances;
+use edges::blank;
+use edges::edges;
+use paper::Pins;
+use paper::Size;
+use trace::At;
+use trace::left_at;
+use trace::trace;
+use tracks::Tracks;
+use tracks::of_axis;
+ghost use mathlib.Core.Path.{_≡_};
+ghost use Prim.Native.Nat.{ℕ, _+_, _*_, _-_, _<_, _≤_};
+ghost use lib.ListN.{length, getD};
+ghost use Rattle.paper.specs.Grid.{gridWith};
+ghost use Rattle.paper.specs.Wire.{gap, manhattan};
+ghost use Rattle.paper.specs.Answer.{source, target};
+ghost use Rattle.blocks.specs.Flat.{flat, listed, Fits};
+ghost use Rattle.edges.specs.Marks.{boxAt};
+ghost use Rattle.distances.specs.Ways.{map};
+ghost use Rattle.trace.specs.Trail.{crossing};
+ghost use Rattle.router.specs.Route.{Answers, Asked};
+ghost use Rattle.router.specs.Told.{Tells, Ready, Stands, Tracked, detourFor, silence};
+
+// The wire's length, its detour and how many corners it has; or why there is none.
+pub enum Route {
+    Wire(u32, u32, usize),
+    NoWire,
+    TooManyRuns,
+}
+
+// The corners stand beside the answer. Places past the last hold 0, and all do where there is no wire to tell.
+pub struct Routed {
+    pub route: Route,
+    pub xs: [u16; 25],
+    pub ys: [u16; 25],
+}
+
+// How far two numbers are apart.
+fn apart(a: u16, b: u16) -> u32
+    ensures { λ r. ⌜ r ≡ gap a b ⌝ }
+{
+    if a < b {
+        (b - a) as u32
+    } else {
+        (a - b) as u32
+    }
+}
+
+// Half of what the wire is longer than on a board without blocks.
+fn detour(long: u32, p: Pins) -> u32
+    requires { ⌜ manhattan (source p) (target p) ≤ long ⌝ }
+    ensures { λ r. ⌜ r ≡ detourFor long p ⌝ }
+{
+    (long - apart(p.sx, p.tx) - apart(p.sy, p.ty)) / 2
+}
+
+// The answer without a wire.
+fn silent(route: Route) -> Routed
+    ensures { λ r. ⌜ r ≡ silence route ⌝ }
+{
+    Routed {
+        route: route,
+        xs: [0u16; 25],
+        ys: [0u16; 25],
+    }
+}
+
+// From the table of distances to the answer.
+fn tell(
+    d: &[u32; 9216],
+    flat: &[u8; 9216],
+    xs: &[u16; 96],
+    nx: usize,
+    tall: &[u8; 9216],
+    ys: &[u16; 96],
+    ny: usize,
+    s: At,
+    t: At,
+    p: Pins,
+) -> Routed
+    requires { ⌜ Ready (map (now xs) nx (now ys) ny (now flat) (now tall)) (now d) s t p ⌝ }
+    ensures { λ r. ⌜ Tells (map (now (xs .entry)) nx (now (ys .entry)) ny (now (flat .entry)) (now (tall .entry))) (now (d .entry)) s t p r ⌝ }
+{
+    let long = left_at(d, s);
+    if long == 1000000000 {
+        return silent(Route::NoWire);
+    }
+    let mut px = [0u16; 25];
+    let mut py = [0u16; 25];
+    let count = trace(
+        d,
+        flat,
+        xs,
+        nx,
+        tall,
+        ys,
+        ny,
+        s,
+        t,
+        4,
+        long,
+        &mut px,
+        &mut py,
+        0,
+    );
+    if count > 25 {
+        return silent(Route::TooManyRuns);
+    }
+    Routed {
+        route: Route::Wire(long, detour(long, p), count),
+        xs: px,
+        ys: py,
+    }
+}
+
+// The number of the track that stands at v.
+fn index_of(at: &[u16; 96], count: usize, v: u16) -> usize
+    requires { ⌜ (count ≤ 96) × Stands (now at) count v ⌝ }
+    ensures { λ r. ⌜ (r < count) × (getD (now (at .entry)) r 0 ≡ v) ⌝ }
+{
+    let mut i: usize = 0;
+    while i < count {
+        if at[i] == v {
+            return i;
+        }
+        i += 1;
+    }
+    0
+}
+
+// On the tracks of both axes: the ways that are shut, the distances, the answer.
+fn on_tracks(
+    size: Size,
+    x: Tracks,
+    y: Tracks,
+    x0: &[u16; 46],
+    y0: &[u16; 46],
+    x1: &[u16; 46],
+    y1: &[u16; 46],
+    c: &[u16; 46],
+    n: usize,
+    p: Pins,
+) -> Routed
+    requires { ⌜ Tracked size (now x0) (now y0) (now x1) (now y1) (now c) n p x y ⌝ }
+    ensures { λ r. ⌜ Answers (gridWith (size .w) (size .h) (listed (boxAt (now (x0 .entry)) (now (y0 .entry)) (now (x1 .entry))
+        (now (y1 .entry)) (now (c .entry))) 0 n)) (source p) (target p) r ⌝ }
+{
+    let xs = x.at;
+    let nx = x.count;
+    let ys = y.at;
+    let ny = y.count;
+    let mut level = blank();
+    let mut upright = blank();
+    edges(
+        &mut level,
+        &mut upright,
+        &xs,
+        nx,
+        &ys,
+        ny,
+        x0,
+        y0,
+        x1,
+        y1,
+        c,
+        n,
+    );
+    let si = index_of(&xs, nx, p.sx);
+    let sj = index_of(&ys, ny, p.sy);
+    let ti = index_of(&xs, nx, p.tx);
+    let tj = index_of(&ys, ny, p.ty);
+    let d = distances(&level, &xs, nx, &upright, &ys, ny, ti, tj);
+    tell(
+        &d,
+        &level,
+        &xs,
+        nx,
+        &upright,
+        &ys,
+        ny,
+        At { i: si, j: sj },
+        At { i: ti, j: tj },
+        p,
+    )
+}
+
+// The answered wire between two pins, or why there is none to tell.
+pub fn find_wire(size: Size, held: Blocks, p: Pins) -> Routed
+    requires { ⌜ Fits held × Asked size (flat held) p ⌝ }
+    ensures { λ r. ⌜ Answers (gridWith (size .w) (size .h) (flat held)) (source p) (target p) r ⌝ }
+{
+    let last = held.items;
+    let n = held.first[last];
+    let x0 = held.x0;
+    let y0 = held.y0;
+    let x1 = held.x1;
+    let y1 = held.y1;
+    let c = held.c;
+    let px = [p.sx, p.tx];
+    let py = [p.sy, p.ty];
+    let x = of_axis(&x0, &x1, &c, n, size.w, &px);
+    let y = of_axis(&y0, &y1, &c, n, size.h, &py);
+    on_tracks(size, x, y, &x0, &y0, &x1, &y1, &c, n, p)
+}

@@ -1,0 +1,111 @@
+-- The base: turns cost nothing. The trace over a settled table is the answered wire.
+-- Assumes nothing.
+use Prim.Native.Nat.{ℕ, suc, _+_, _≤_, _<_}
+use native.Mathlib.Omega.{arith}
+use mathlib.Core.Path.{_≡_, refl, subst₂}
+use mathlib.Core.List.{List, [], _++_}
+use lib.ListN.{length, replicate}
+use Rattle.paper.specs.Grid.{Node, Dir, rank, step, Axis, Grid, Free}
+use Rattle.paper.specs.Wire.{Legal, Answered}
+use Rattle.paper.specs.Layout.{across}
+use Rattle.paper.specs.Laws.Steps.{axisOf}
+use Rattle.walks.specs.Axes.{coord, place, place-of, Sense, up, down, senseOf, Further, keeps, lands, EdgeAt, free}
+use Rattle.walks.specs.Tracks.{Tracks}
+use Rattle.walks.specs.Crossings.{Crossing, spot, crossings, far, Sliced}
+use Rattle.walks.specs.Ways.{Way, far-is, way-of}
+use Rattle.walks.specs.Turns.{Came, fresh, by, bend-most, best-answered}
+use Rattle.walks.specs.Tables
+
+module _ (G : Grid) (T : Axis → Tracks) (D : Node → ℕ) where
+  -- from q the way in the direction is open and leads nearer by its length
+  pub record Leads (q : Node) (d : Dir) : Type 0 where
+    pub clear : Free (crossings T G) q d
+    pub nearer : D (step d q) + far T d q ≡ D q
+
+  -- told by numbers: from track i to the next, i′, on track j across
+  pub leads : (d : Dir) (i i′ j w : ℕ) → let a = axisOf d in Way G T a (senseOf d) i i′ j w → D (place a i′ j) + w ≡ D (place a i j)
+      → Leads (place a i j) d
+  leads d i i′ j w x e = record {
+    clear = free (crossings T G) d i i′ j (x .hop);
+    nearer = rw (lands d i i′ j (x .hop .one), far-is T d i i′ j w (x .hop .one) (x .long)) e;
+  }
+
+  pub led : (d : Dir) (i i′ j w : ℕ) → let a = axisOf d in Further (senseOf d) 1 i i′ → Further (senseOf d) w (T a .track i) (T a .track i′)
+      → Leads (place a i j) d → D (place a i′ j) + w ≡ D (place a i j)
+  led d i i′ j w h k l = rw (lands d i i′ j h, far-is T d i i′ j w h k) at (l .nearer)
+
+  -- the trace to g: always by the first direction that leads nearer
+  pub data Trace (g : Node) : Node → List Dir → Type 0 where
+    stop : Trace g g []
+    go : {q : Node} {d : Dir} {rest : List Dir} → Leads q d → ((e : Dir) → rank e < rank d → ¬ (Leads q e))
+        → Trace g (step d q) rest → Trace g q (replicate (far T d q) d ++ rest)
+
+  -- no way makes a number smaller; where it is inf or more the search has not come
+  abbrev pub Settled : ℕ → Type 0
+  Settled inf = (d : Dir) (q : Node) → Free (crossings T G) q d → D (step d q) < inf → (D q < inf) × (D q ≤ D (step d q) + far T d q)
+
+  -- What a search to g leaves behind: g has 0, no way makes a number smaller, and each other number that it has come to is owed to a way from a
+  -- smaller one.
+  pub record Searched (inf : ℕ) (g : Node) : Type 0 where
+    pub on : Crossing T g
+    pub some : 0 < inf
+    pub here : D g ≡ 0
+    pub settled : Settled inf
+    pub source : (q : Node) → Crossing T q → D q < inf → ¬ (q ≡ g) → (d : Dir) × Free (crossings T G) q d × (D (step d q) + far T d q ≤ D q)
+
+  -- ---- it is the general trace, through a table of no turns
+
+  abbrev none : Axis → Node → ℕ
+  none a q = 0
+
+  general : (g : Node) (m : Came) (q : Node) (v : List Dir) → Trace g q v → Tables.Trace 0 G T D none g m 0 q v
+  general g m q v stop = Tables.stop
+  general g m q v (go {d = d} {rest = rest} l others t) =
+      Tables.go {m = m} {c = 0} (record { clear = l .clear; nearer = l .nearer; turns = omega (arith, bend-most 0 m (axisOf d)) })
+      (λ e p f. others e p (record { clear = f .clear; nearer = f .nearer })) (general g (by (axisOf d)) (step d q) rest t)
+
+  -- it has as many steps as the table says
+  pub trace-length : (g : Node) → D g ≡ 0 → (q : Node) (v : List Dir) → Trace g q v → length v ≡ D q
+  trace-length g z q v t = Tables.trace-length 0 G T D none g z fresh 0 q v (general g fresh q v t)
+
+module _ {G : Grid} {T : Axis → Tracks} {D : Node → ℕ} {inf : ℕ} {g : Node} (sliced : Sliced G T) (done : Searched G T D inf g) where
+  settled : Tables.Settled 0 G T D (none G T D) inf
+  settled = record { steps = done .settled; straight = λ d q f r e. omega arith; turn = λ a b q i r. omega arith }
+
+  -- a crossing with a trace is reached
+  trace-reached : (q : Node) (v : List Dir) → Trace G T D g q v → D q < inf
+  trace-reached q v stop = omega (arith, done .here, done .some)
+  trace-reached q v (go {d = d} {rest = rest} l others t) = done .settled d q (l .clear) (trace-reached (step d q) rest t) .0
+
+  pub trace-answered : (q : Node) → Crossing T q → (v : List Dir) → Trace G T D g q v → Answered G (spot T q) (spot T g) v
+  trace-answered q i v t =
+      let all = general G T D g fresh q v t in
+      best-answered G (spot T q) (spot T g) v
+      (Tables.trace-best 0 G T D (none G T D) sliced inf settled g (done .on) (done .some) (done .here) (λ a. refl) q i 0 v all (trace-reached q v t)
+      (λ a. omega arith))
+
+  -- and from one that is not reached there is no wire
+  pub no-wire : (q : Node) → Crossing T q → inf ≤ D q → (v : List Dir) → ¬ (Legal G (spot T q) (spot T g) v)
+  no-wire = Tables.no-wire 0 G T D (none G T D) sliced inf settled g (done .on) (done .some) (done .here) (λ a. refl)
+
+-- ---- settled, said once over the axis
+
+-- of two neighbours w apart neither makes the other smaller
+abbrev pub Even : (inf w x y : ℕ) → Type 0
+Even inf w x y = (y < inf → (x < inf) × (x ≤ y + w)) × (x < inf → (y < inf) × (y ≤ x + w))
+
+-- a table is settled if the numbers at the two ends of each open way are even
+pub settled-by-axis : {G : Grid} {T : Axis → Tracks} → Sliced G T → (D : Node → ℕ) (inf : ℕ)
+    → ((a : Axis) (i j w : ℕ) → EdgeAt (crossings T G) a i j → T a .track i + w ≡ T a .track (suc i)
+    → Even inf w (D (place a i j)) (D (place a (suc i) j)))
+    → Settled G T D inf
+settled-by-axis {G} {T} sliced D inf even d q f =
+    let a = axisOf d in
+    let there = rw (keeps d q) at (place-of a (step d q)) in
+    subst₂ (λ y x. D y < inf → (D x < inf) × (D x ≤ D y + far T d q)) there (place-of a q)
+    (go a (senseOf d) (coord a q) (coord a (step d q)) (coord (across a) q) (far T d q) (way-of sliced d q f .0))
+  where
+    go : (a : Axis) (s : Sense) (u v j w : ℕ) → Way G T a s u v j w
+        → D (place a v j) < inf → (D (place a u j) < inf) × (D (place a u j) ≤ D (place a v j) + w)
+    go a up u v j w x = let e : suc u ≡ v = omega (arith, x .hop .one) in rw (← e) (even a u j w (x .hop .edge) (rw e (x .long)) .0)
+    go a down u v j w x = let e : suc v ≡ u = omega (arith, x .hop .one) in rw (← e) (even a v j w (x .hop .edge) (rw e (x .long)) .1)
