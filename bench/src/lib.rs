@@ -8,6 +8,8 @@
 //! twelve bytes, `board` keeps the items and decides the codes, `route` picks
 //! one of the two searches (`unit`, `wide`), `sheet` prints. The other tools are
 //! `generate`, `tally`, `text` and `draw`; `fault` is there for the tests only.
+//! Speed is measured by `question` (the file), `questions` (what is asked),
+//! `peer` and `timing`.
 
 pub mod board;
 pub mod code;
@@ -17,12 +19,16 @@ pub mod generate;
 pub mod geometry;
 pub mod item;
 pub mod limits;
+pub mod peer;
+pub mod question;
+pub mod questions;
 pub mod record;
 pub mod rng;
 pub mod route;
 pub mod sheet;
 pub mod tally;
 pub mod text;
+pub mod timing;
 pub mod unit;
 pub mod wide;
 pub mod wire;

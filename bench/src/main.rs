@@ -2,15 +2,18 @@
 
 use std::env;
 use std::io::{self, BufReader, BufWriter, Read, Write};
+use std::path::PathBuf;
 use std::process::ExitCode;
 use std::time::{Duration, Instant};
 
 use bench::board::Board;
 use bench::draw::Scene;
 use bench::generate::{Style, DEFAULT_COUNT, STYLES};
+use bench::questions::{Kind, KINDS};
 use bench::sheet::{self, Stopped};
 use bench::tally::Tally;
-use bench::text;
+use bench::timing::{self, Pair};
+use bench::{peer, question, text};
 
 const USAGE: &str = "\
 usage: bench COMMAND, reading standard input and writing standard output
@@ -21,6 +24,9 @@ usage: bench COMMAND, reading standard input and writing standard output
   pack                    readable text -> records
   unpack                  records -> readable text
   draw                    records -> an SVG picture of the board
+  questions NAME          nothing -> a file of questions to time
+  time [PROGRAM]          nothing -> a table: the peer's speed and PROGRAM's
+                          (the proved program unless given)
 ";
 
 /// The usage text with the generator's styles.
@@ -29,6 +35,10 @@ fn usage() -> String {
     text += &format!("\nstyles of gen (COUNT is {DEFAULT_COUNT} records unless given):\n");
     for style in &STYLES {
         text += &format!("  {:<8} {}\n", style.name, style.about);
+    }
+    text += "\nnames of questions:\n";
+    for kind in &KINDS {
+        text += &format!("  {:<8} {}\n", kind.name, kind.about);
     }
     text
 }
@@ -79,6 +89,8 @@ fn run(args: &[&str]) -> Result<(), Failure> {
             write(scene.svg().as_bytes())
         }
         ["gen", rest @ ..] => write(&generate(rest)?),
+        ["questions", rest @ ..] => write(&questions(rest)?),
+        ["time", rest @ ..] => time(rest),
         [command @ ("print" | "tally" | "pack" | "unpack" | "draw"), ..] => {
             Err(Failure::Usage(format!("{command} takes nothing on the command line")))
         }
@@ -120,6 +132,31 @@ fn generate(args: &[&str]) -> Result<Vec<u8>, Failure> {
         }
     };
     Ok(style.file(seed, count))
+}
+
+fn questions(args: &[&str]) -> Result<Vec<u8>, Failure> {
+    let [name] = args else {
+        return Err(Failure::Usage("questions takes NAME".to_string()));
+    };
+    let kind = Kind::named(name).ok_or_else(|| Failure::Usage(format!("unknown NAME '{name}'")))?;
+    Ok(question::file(&kind.questions(), 1))
+}
+
+fn time(args: &[&str]) -> Result<(), Failure> {
+    let program = match args {
+        [] => timing::proved_program(),
+        // A bare name is a file here, not a command to look for.
+        [program] => PathBuf::from(".").join(program),
+        _ => return Err(Failure::Usage("time takes [PROGRAM]".to_string())),
+    };
+    timing::check_there(&program).map_err(Failure::Told)?;
+    let pair = Pair { peer: peer::built().map_err(Failure::Told)?, program };
+    write(timing::head().as_bytes())?;
+    for kind in &KINDS {
+        let row = timing::row(kind.name, &pair, timing::RUN).map_err(Failure::Told)?;
+        write(row.as_bytes())?;
+    }
+    Ok(())
 }
 
 fn read() -> Result<Vec<u8>, Failure> {

@@ -56,6 +56,11 @@ impl Router {
         }
     }
 
+    /// A router that already knows its blocks, for a question without a board.
+    pub fn over(blocks: Vec<Rect>) -> Router {
+        Router { blocks, blocks_stale: false, ..Router::default() }
+    }
+
     /// Drops everything prepared, for a new board.
     pub fn forget(&mut self) {
         self.blocks_stale = true;

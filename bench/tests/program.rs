@@ -110,7 +110,7 @@ fn draws() {
 
 #[test]
 fn a_wrong_command_line_shows_the_usage() {
-    let wrong: [(&[&str], &str); 10] = [
+    let wrong: [(&[&str], &str); 14] = [
         (&[], "no command"),
         (&["paint"], "unknown command 'paint'"),
         (&["print", "x"], "print takes nothing"),
@@ -121,6 +121,10 @@ fn a_wrong_command_line_shows_the_usage() {
         (&["gen", "one", "small"], "SEED is 'one'"),
         (&["gen", "1", "tiny"], "unknown STYLE 'tiny'"),
         (&["gen", "1", "small", "-1"], "COUNT is '-1'"),
+        (&["questions"], "questions takes NAME"),
+        (&["questions", "mid", "2"], "questions takes NAME"),
+        (&["questions", "tiny"], "unknown NAME 'tiny'"),
+        (&["time", "ask", "2"], "time takes [PROGRAM]"),
     ];
     for (args, what) in wrong {
         let output = run(args, b"");

@@ -1,0 +1,242 @@
+//! The question files, and the peer's answers against the second router's.
+
+mod common;
+
+use std::fs;
+use std::io::Write;
+use std::path::{Path, PathBuf};
+use std::process::{Command, Stdio};
+use std::sync::OnceLock;
+use std::time::Duration;
+
+use bench::code::Code;
+use bench::geometry::{Point, Rect};
+use bench::peer;
+use bench::question::{average_runs, checksum, file, read, Question, Row};
+use bench::questions::KINDS;
+use bench::rng::Rng;
+use bench::timing::{self, Pair};
+
+fn bytes_of(name: &str) -> Vec<u8> {
+    let path = peer::bench_folder().join("questions").join(name).with_extension("q");
+    fs::read(path).expect("a question file")
+}
+
+fn questions_of(name: &str) -> Vec<Question> {
+    read(&bytes_of(name)).expect("a whole question file")
+}
+
+/// The peer, compiled anew, so that a missing compiler is noticed.
+fn sound() -> &'static Path {
+    static BINARY: OnceLock<PathBuf> = OnceLock::new();
+    BINARY.get_or_init(|| compiled("sound", |source| source.to_string()))
+}
+
+fn compiled(name: &str, change: impl Fn(&str) -> String) -> PathBuf {
+    let folder = Path::new(env!("CARGO_TARGET_TMPDIR"));
+    let (source, binary) = (folder.join(format!("{name}.c")), folder.join(name));
+    let text = fs::read_to_string(peer::source()).expect("the peer's source");
+    fs::write(&source, change(&text)).expect("a folder to write to");
+    peer::compile(&source, &binary).expect("the kit's clang compiles the peer");
+    binary
+}
+
+/// The peer with one piece of its source replaced.
+fn spoiled(name: &str, piece: &str, by: &str) -> PathBuf {
+    compiled(name, |source| {
+        assert_eq!(source.matches(piece).count(), 1, "{piece}");
+        source.replace(piece, by)
+    })
+}
+
+/// What a program prints; `None` if it fails.
+fn printed(program: &Path, input: &[u8]) -> Option<String> {
+    let mut child = Command::new(program)
+        .stdin(Stdio::piped())
+        .stdout(Stdio::piped())
+        .spawn()
+        .expect("the program starts");
+    child.stdin.take().expect("a pipe").write_all(input).expect("it reads its input");
+    let output = child.wait_with_output().expect("the program ends");
+    output.status.success().then(|| String::from_utf8(output.stdout).expect("text"))
+}
+
+fn agrees(program: &Path, questions: &[Question]) -> bool {
+    printed(program, &file(questions, 1)) == Some(format!("{}\n", checksum(questions)))
+}
+
+/// A tiny board with anything on it: boxes that overlap, have no area or reach
+/// past the board, pins that may be blocked, equal or off the board.
+fn tiny(rng: &mut Rng) -> Question {
+    let (w, h) = (rng.range(1, 9), rng.range(1, 9));
+    let row = |rng: &mut Rng| {
+        let (x, y) = (rng.range(0, w), rng.range(0, h));
+        let area = Rect::new(x, y, rng.range(x, x + 3), rng.range(y, y + 3));
+        Row { area, c: rng.range(-2, 2).max(0) }
+    };
+    let rows = (0..rng.range(0, 10)).map(|_| row(rng)).collect();
+    let mut pin = || Point::new(rng.range(0, w + 1), rng.range(0, h));
+    Question { w, h, s: pin(), t: pin(), rows }
+}
+
+/// Walls that are passed above and below in turn, in two runs each.
+fn comb(walls: i32) -> Question {
+    let row = |wall: i32| {
+        let (y0, y1) = if wall % 2 == 1 { (0, 8) } else { (2, 10) };
+        Row { area: Rect::new(3 * wall, y0, 3 * wall, y1), c: 1 }
+    };
+    let w = 3 * (walls + 1);
+    let (s, t) = (Point::new(0, 5), Point::new(w, 5));
+    Question { w, h: 10, s, t, rows: (1..=walls).map(row).collect() }
+}
+
+/// Files of questions that reach every end a question can come to.
+fn odd_files() -> &'static [Vec<Question>] {
+    static FILES: OnceLock<Vec<Vec<Question>>> = OnceLock::new();
+    FILES.get_or_init(|| {
+        let mut rng = Rng::new(1);
+        let mut files: Vec<Vec<Question>> =
+            (0..60).map(|_| (0..130).map(|_| tiny(&mut rng)).collect()).collect();
+        files.push((1..40).map(comb).collect());
+        files
+    })
+}
+
+#[test]
+fn the_files_are_those_of_the_seeds() {
+    for kind in &KINDS {
+        assert!(bytes_of(kind.name) == file(&kind.questions(), 1), "{}", kind.name);
+        assert!(questions_of(kind.name) == kind.questions(), "{}", kind.name);
+    }
+}
+
+#[test]
+fn the_files_are_worth_asking() {
+    for (name, blocks) in [("mid", 20), ("large", 46), ("maze", 46)] {
+        let questions = questions_of(name);
+        assert!((20..=40).contains(&questions.len()), "{name}");
+        assert!(average_runs(&questions) >= 8.0, "{name}");
+        for question in &questions {
+            let wire = question.answer().expect("good pins").expect("a wire");
+            assert!(wire.detour() > 0 && question.rows.len() == blocks, "{name}");
+            let keepout = |row: &Row| row.c == 0 && row.area.x0 < row.area.x1;
+            let run = |row: &Row| {
+                row.c > 0 && (row.area.x0 == row.area.x1) != (row.area.y0 == row.area.y1)
+            };
+            assert!(question.rows.iter().all(|row| keepout(row) || run(row)), "{name}");
+            assert!(question.rows.iter().any(keepout) && question.rows.iter().any(run), "{name}");
+        }
+    }
+}
+
+#[test]
+fn a_file_that_is_not_whole_is_not_read() {
+    let bytes = bytes_of("mid");
+    assert!(read(&bytes[..bytes.len() - 2]).is_none());
+    assert!(read(&[]).is_none());
+    assert_eq!(read(&[0, 0, 1, 0]), Some(Vec::new()));
+}
+
+#[test]
+fn the_peer_agrees_with_the_second_router() {
+    for kind in &KINDS {
+        assert!(agrees(sound(), &questions_of(kind.name)), "{}", kind.name);
+    }
+    for (number, questions) in odd_files().iter().enumerate() {
+        assert!(agrees(sound(), questions), "odd file {number}");
+    }
+}
+
+#[test]
+fn the_odd_files_reach_every_end() {
+    let answers: Vec<_> = odd_files().iter().flatten().map(Question::answer).collect();
+    let count = |wanted: Option<Code>| {
+        answers.iter().filter(|&answer| answer.as_ref().map(code) == wanted).count()
+    };
+    for (end, least) in [
+        (Some(Code::Accepted), 2_000),
+        (Some(Code::NoWire), 40),
+        (Some(Code::TooManyRuns), 10),
+        (None, 1_000),
+    ] {
+        assert!(count(end) >= least, "{end:?} came {} times", count(end));
+    }
+}
+
+fn code(answer: &Result<bench::wire::Wire, Code>) -> Code {
+    answer.as_ref().err().copied().unwrap_or(Code::Accepted)
+}
+
+#[test]
+fn planted_differences_are_noticed() {
+    for (name, piece, by) in [
+        ("trimmed", "int left = b->x0 - b->c,", "int left = b->x0 < b->c ? 0 : b->x0 - b->c,"),
+        ("corners", "MAX_CORNERS = 25", "MAX_CORNERS = 24"),
+        ("unreached", "FAR_BYTE 0x7f", "FAR_BYTE 0xff"),
+    ] {
+        let program = spoiled(name, piece, by);
+        assert!(odd_files().iter().any(|file| !agrees(&program, file)), "{name} went unnoticed");
+    }
+}
+
+/// The peer with another order of directions.
+fn misordered() -> &'static Path {
+    static BINARY: OnceLock<PathBuf> = OnceLock::new();
+    BINARY.get_or_init(|| spoiled("order", "ORDER[4] = {E, N, W, S}", "ORDER[4] = {N, E, W, S}"))
+}
+
+#[test]
+fn another_order_is_noticed_on_each_file() {
+    for kind in &KINDS {
+        assert!(!agrees(misordered(), &questions_of(kind.name)), "{}", kind.name);
+    }
+}
+
+/// A wrong program is told even where it is timed only.
+#[test]
+fn a_difference_ends_the_timing() {
+    let output = bench_time(misordered());
+    let told = String::from_utf8_lossy(&output.stderr).into_owned();
+    assert!(
+        told.starts_with("bench time: mid: ") && told.contains("the second router has"),
+        "{told}"
+    );
+    assert_eq!(output.status.code(), Some(1));
+}
+
+/// What agrees when asked once and saves work when asked again is told too.
+#[test]
+fn a_late_difference_ends_the_timing() {
+    let program = spoiled("late", "rep++", "rep += 2");
+    let pair = Pair { peer: sound().to_path_buf(), program };
+    let told =
+        pair.times(&questions_of("mid"), Duration::from_millis(20)).err().expect("a difference");
+    assert!(told.starts_with("with reps "), "{told}");
+}
+
+#[test]
+fn a_missing_program_is_told() {
+    let output = bench_time(&Path::new(env!("CARGO_TARGET_TMPDIR")).join("none"));
+    let told = String::from_utf8_lossy(&output.stderr).into_owned();
+    assert!(
+        told.starts_with("bench time: no program at ") && told.contains("'rt check ask'"),
+        "{told}"
+    );
+    assert_eq!(output.status.code(), Some(1));
+}
+
+fn bench_time(program: &Path) -> std::process::Output {
+    let mut command = Command::new(env!("CARGO_BIN_EXE_bench"));
+    command.arg("time").arg(program).output().expect("the program runs")
+}
+
+#[test]
+fn a_row_of_the_table() {
+    let pair = Pair { peer: sound().to_path_buf(), program: sound().to_path_buf() };
+    let row = timing::row("mid", &pair, Duration::from_millis(20)).expect("a row");
+    let words: Vec<&str> = row.split_whitespace().collect();
+    assert!(words.len() >= 6, "{row}");
+    assert_eq!((words[0], words[1]), ("mid", "32"));
+    let ratio: f64 = words[5].parse().expect("a ratio");
+    assert!(ratio > 0.0, "{row}");
+}
