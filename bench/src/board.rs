@@ -56,6 +56,11 @@ impl Board {
         self.items.values().map(Item::block_count).sum()
     }
 
+    /// How many changes an undo could take back.
+    pub fn kept_count(&self) -> usize {
+        self.kept.len()
+    }
+
     /// The blocks of all items, as open rectangles.
     pub fn blocks(&self) -> Vec<Rect> {
         let Some(frame) = self.frame else { return Vec::new() };

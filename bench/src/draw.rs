@@ -7,7 +7,7 @@ use crate::code::Code;
 use crate::fault::Fault;
 use crate::geometry::{Point, Rect};
 use crate::item::{Frame, Item};
-use crate::record::Record;
+use crate::record::{Pins, Record};
 use crate::sheet::{Next, Pieces};
 use crate::wire::Wire;
 
@@ -26,6 +26,9 @@ const LEAST_WIDTH: f64 = 620.0;
 /// Boards of up to this size show their unit grid.
 const MOST_GRID_LINES: i32 = 60;
 
+/// What the legend says of the last answer.
+const LAST_ANSWER: (&str, &str) = ("last", "last answer, from s to t");
+
 const STYLE: &str = "\
 text { font-family: 'DejaVu Sans', Verdana, sans-serif; fill: #22262b; }
 .title { font-size: 20px; font-weight: bold; }
@@ -39,7 +42,8 @@ text { font-family: 'DejaVu Sans', Verdana, sans-serif; fill: #22262b; }
 .box { fill: #1b6ca8; }
 .wire { stroke: #1b6ca8; stroke-width: 3; }
 .last { stroke: #d4480b; stroke-width: 4; }
-.wire, .last { fill: none; stroke-linejoin: round; stroke-linecap: round; }
+.other { stroke: #7a2fa0; stroke-width: 4; stroke-dasharray: 9 9; }
+.wire, .last, .other { fill: none; stroke-linejoin: round; stroke-linecap: round; }
 .pin { fill: #fff; stroke: #d4480b; stroke-width: 3; }
 .pinname { font-size: 11px; font-weight: bold; text-anchor: middle; fill: #d4480b; }
 ";
@@ -49,6 +53,16 @@ text { font-family: 'DejaVu Sans', Verdana, sans-serif; fill: #22262b; }
 pub struct Scene {
     board: Board,
     last: Option<Wire>,
+    /// Shown in the place of `last`, if there.
+    versus: Option<Versus>,
+}
+
+/// The answers of two routers to one record: corners, none without a wire.
+pub struct Versus {
+    /// The record's pins, if it has some.
+    pub pins: Option<Pins>,
+    pub own: Vec<Point>,
+    pub other: Vec<Point>,
 }
 
 impl Scene {
@@ -67,6 +81,12 @@ impl Scene {
         Ok(scene)
     }
 
+    /// The same board, with two answers in the place of the last one.
+    pub fn with(mut self, versus: Versus) -> Scene {
+        self.versus = Some(versus);
+        self
+    }
+
     pub fn svg(&self) -> String {
         let Some(frame) = self.board.frame() else { return no_board() };
         let mut paper = Paper::new(*frame);
@@ -77,19 +97,38 @@ impl Scene {
         }
         for (_, item) in self.board.items() {
             if let Item::Wire(wire) = item {
-                paper.add_path("wire", wire);
+                paper.add_path("wire", wire.corners());
             }
         }
         for (id, item) in self.board.items() {
             paper.add_id(id, item);
         }
-        if let Some(wire) = &self.last {
-            paper.add_path("last", wire);
-            paper.add_pin(wire.start(), "s");
-            paper.add_pin(wire.end(), "t");
-        }
-        paper.add_legend();
+        self.add_answer(&mut paper);
         paper.finish()
+    }
+
+    fn add_answer(&self, paper: &mut Paper) {
+        let pins = match (&self.versus, &self.last) {
+            (Some(versus), _) => {
+                paper.add_path("last", &versus.own);
+                paper.add_path("other", &versus.other);
+                paper.add_legend(&[("last", "second router"), ("other", "program")]);
+                versus.pins
+            }
+            (None, Some(wire)) => {
+                paper.add_path("last", wire.corners());
+                paper.add_legend(&[LAST_ANSWER]);
+                Some(Pins { s: wire.start(), t: wire.end() })
+            }
+            (None, None) => {
+                paper.add_legend(&[LAST_ANSWER]);
+                None
+            }
+        };
+        if let Some(Pins { s, t }) = pins {
+            paper.add_pin(s, "s");
+            paper.add_pin(t, "t");
+        }
     }
 
     fn add_head(&self, frame: &Frame, paper: &mut Paper) {
@@ -99,12 +138,13 @@ impl Scene {
             self.board.items().filter(|(_, item)| matches!(item, Item::Keepout(_))).count();
         let wires = self.board.items().count() - keepouts;
         let mut note = format!("keep-outs: {keepouts}, wires: {wires}");
-        match &self.last {
-            Some(wire) => {
+        match (&self.versus, &self.last) {
+            (Some(_), _) => note += "; two answers that differ",
+            (None, Some(wire)) => {
                 note +=
                     &format!("; last answer: length {}, detour {}", wire.length(), wire.detour())
             }
-            None => note += "; no answer yet",
+            (None, None) => note += "; no answer yet",
         }
         if paper.stretched() {
             note += "; the axes differ in scale";
@@ -226,9 +266,12 @@ impl Paper {
         }
     }
 
-    fn add_path(&mut self, class: &str, wire: &Wire) {
+    fn add_path(&mut self, class: &str, corners: &[Point]) {
         let corner = |p: &Point| format!("{:.2},{:.2}", self.x(p.x), self.y(p.y));
-        let corners: Vec<String> = wire.corners().iter().map(corner).collect();
+        let corners: Vec<String> = corners.iter().map(corner).collect();
+        if corners.is_empty() {
+            return;
+        }
         self.line(&format!("<polyline points=\"{}\" class=\"{class}\"/>", corners.join(" ")));
     }
 
@@ -263,7 +306,8 @@ impl Paper {
         }
     }
 
-    fn add_legend(&mut self) {
+    /// What the colours mean; `answers` are the classes of answered wires.
+    fn add_legend(&mut self, answers: &[(&str, &str)]) {
         let y = ABOVE + self.high + 66.0;
         self.pixels(LEFT, y - 11.0, 26.0, 14.0, "keepout");
         self.text(LEFT + 34.0, y, "note", "keep-out");
@@ -273,9 +317,12 @@ impl Paper {
         self.line("</g>");
         self.line(&format!("<path d=\"M{x} {} h26\" class=\"wire\"/>", y - 4.0));
         self.text(x + 34.0, y, "note", "laid wire, clearance");
-        let x = x + 196.0;
-        self.line(&format!("<path d=\"M{x} {} h26\" class=\"last\"/>", y - 4.0));
-        self.text(x + 34.0, y, "note", "last answer, from s to t");
+        let mut x = x + 196.0;
+        for (class, about) in answers {
+            self.line(&format!("<path d=\"M{x} {} h26\" class=\"{class}\"/>", y - 4.0));
+            self.text(x + 34.0, y, "note", about);
+            x += 136.0;
+        }
     }
 
     fn finish(self) -> String {

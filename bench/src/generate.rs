@@ -18,7 +18,7 @@ pub struct Style {
     episode: fn(&mut Maker),
 }
 
-pub const STYLES: [Style; 7] = [
+pub const STYLES: [Style; 10] = [
     Style { name: "small", about: "dense boards of up to 14 x 14", episode: episodes::small },
     Style {
         name: "history",
@@ -29,6 +29,12 @@ pub const STYLES: [Style; 7] = [
         name: "large",
         about: "boards of up to 30000 x 30000, clearance up to 200",
         episode: episodes::large,
+    },
+    Style { name: "widest", about: "many asks on 30000 x 30000", episode: episodes::widest },
+    Style {
+        name: "full",
+        about: "boards that stay near 46 blocks and 32 kept changes",
+        episode: episodes::full,
     },
     Style {
         name: "maze",
@@ -46,10 +52,17 @@ pub const STYLES: [Style; 7] = [
         episode: broken::broken,
     },
     Style { name: "mixed", about: "all of the above in turn", episode: mixed },
+    Style {
+        name: "long",
+        about: "one nearly full board for the whole file, however long",
+        episode: episodes::long,
+    },
 ];
 
 /// Records of a file if nothing else is asked for.
 pub const DEFAULT_COUNT: usize = 2_000;
+/// Of a hundred files, how many have records before any bounds.
+const EARLY: i32 = 75;
 
 impl Style {
     pub fn named(name: &str) -> Option<&'static Style> {
@@ -58,12 +71,29 @@ impl Style {
 
     /// The file of a seed, with `count` records.
     pub fn file(&self, seed: u64, count: usize) -> Vec<u8> {
-        let mut maker = Maker::new(seed, count);
-        while maker.left() > 0 {
-            (self.episode)(&mut maker);
-        }
-        maker.file()
+        series(seed, &[(self, count)])
     }
+
+    /// Repeats the episode until the maker has the records that it wants.
+    fn fill(&self, maker: &mut Maker) {
+        while maker.left() > 0 {
+            (self.episode)(maker);
+        }
+    }
+}
+
+/// One file of several styles, each with its number of records. In most files
+/// some records come before any bounds.
+pub fn series(seed: u64, parts: &[(&Style, usize)]) -> Vec<u8> {
+    let mut maker = Maker::new(seed);
+    for (number, (style, count)) in parts.iter().enumerate() {
+        maker.want(*count);
+        if number == 0 && maker.rng.chance(EARLY) {
+            broken::before_bounds(&mut maker);
+        }
+        style.fill(&mut maker);
+    }
+    maker.file()
 }
 
 fn mixed(maker: &mut Maker) {
@@ -71,6 +101,8 @@ fn mixed(maker: &mut Maker) {
         episodes::small,
         episodes::history,
         episodes::large,
+        episodes::widest,
+        episodes::full,
         maze::maze,
         episodes::flush,
         broken::broken,

@@ -8,16 +8,22 @@
 //! twelve bytes, `board` keeps the items and decides the codes, `route` picks
 //! one of the two searches (`unit`, `wide`), `sheet` prints. The other tools are
 //! `generate`, `tally`, `text` and `draw`; `fault` is there for the tests only.
-//! Speed is measured by `question` (the file), `questions` (what is asked),
-//! `peer` and `timing`.
+//! Another router's sheets are compared by `compare`, and `cases` makes a fixed
+//! file for it. Speed is measured by `question` (the file), `questions` (what is
+//! asked), `timing` and `sheet_timing`, beside the `peer`. `launch` starts other
+//! programs, with what the `kit` has.
 
 pub mod board;
+pub mod cases;
 pub mod code;
+pub mod compare;
 pub mod draw;
 pub mod fault;
 pub mod generate;
 pub mod geometry;
 pub mod item;
+pub mod kit;
+pub mod launch;
 pub mod limits;
 pub mod peer;
 pub mod question;
@@ -25,7 +31,10 @@ pub mod questions;
 pub mod record;
 pub mod rng;
 pub mod route;
+pub mod scratch;
 pub mod sheet;
+pub mod sheet_timing;
+pub mod stopwatch;
 pub mod tally;
 pub mod text;
 pub mod timing;

@@ -7,13 +7,17 @@ use std::process::ExitCode;
 use std::time::{Duration, Instant};
 
 use bench::board::Board;
+use bench::compare::{self, trackprint, Report, Rival, Step, Wanted};
 use bench::draw::Scene;
 use bench::generate::{Style, DEFAULT_COUNT, STYLES};
+use bench::launch::{self, Way};
+use bench::limits::MAX_RECORDS;
+use bench::peer::{bench_folder, Peer};
 use bench::questions::{Kind, KINDS};
-use bench::sheet::{self, Stopped};
+use bench::sheet::{self, Seen, Stopped};
+use bench::stopwatch::Pair;
 use bench::tally::Tally;
-use bench::timing::{self, Pair};
-use bench::{peer, question, text};
+use bench::{cases, question, sheet_timing, text, timing};
 
 const USAGE: &str = "\
 usage: bench COMMAND, reading standard input and writing standard output
@@ -24,9 +28,17 @@ usage: bench COMMAND, reading standard input and writing standard output
   pack                    readable text -> records
   unpack                  records -> readable text
   draw                    records -> an SVG picture of the board
+  compare [--records N] [--seed S] [--program PROGRAM] [FILE...]
+                          nothing -> the first difference of PROGRAM's sheets
+                          (trackprint's unless given) from this router's, on
+                          random files of N records in all, or on the FILEs
+  cases stdin             nothing -> the record file of the fixed cases
+  cases stdout            nothing -> the sheet of that file
   questions NAME          nothing -> a file of questions to time
   time [PROGRAM]          nothing -> a table: the peer's speed and PROGRAM's
-                          (the proved program unless given)
+                          (the proved router's unless given), on questions
+  time sheet [PROGRAM]    the same for whole files of records (trackprint
+                          unless given)
 ";
 
 /// The usage text with the generator's styles.
@@ -52,6 +64,8 @@ enum Failure {
     Usage(String),
     /// Something else went wrong.
     Told(String),
+    /// Two sheets differ, which was already told.
+    Differs,
     /// Nobody reads the output any more, which is no one's fault.
     Closed,
 }
@@ -62,6 +76,7 @@ fn main() -> ExitCode {
     let args: Vec<&str> = args.iter().map(String::as_str).collect();
     let (what, status) = match run(&args) {
         Ok(()) | Err(Failure::Closed) => return ExitCode::SUCCESS,
+        Err(Failure::Differs) => return ExitCode::FAILURE,
         Err(Failure::Usage(what)) => (format!("bench: {what}\n\n{}", usage()), 2),
         Err(Failure::Told(what)) => (format!("bench {}: {what}\n", args[0]), 1),
     };
@@ -88,6 +103,10 @@ fn run(args: &[&str]) -> Result<(), Failure> {
             let scene = Scene::of(BufReader::new(io::stdin())).map_err(unread)?;
             write(scene.svg().as_bytes())
         }
+        ["compare", rest @ ..] => compare(rest),
+        ["cases", "stdin"] => write(&cases::records()),
+        ["cases", "stdout"] => write(&cases::sheet().0),
+        ["cases", ..] => Err(Failure::Usage("cases takes stdin or stdout".to_string())),
         ["gen", rest @ ..] => write(&generate(rest)?),
         ["questions", rest @ ..] => write(&questions(rest)?),
         ["time", rest @ ..] => time(rest),
@@ -102,13 +121,14 @@ fn print() -> Result<(), Failure> {
     let input = BufReader::new(io::stdin());
     let output = BufWriter::new(io::stdout());
     let mut told = Instant::now();
-    let progress = |number: usize| {
+    let progress = |seen: &Seen| {
         if told.elapsed() >= PROGRESS_EVERY {
             told = Instant::now();
-            let _ = writeln!(io::stderr(), "bench print: {number} records so far");
+            let _ = writeln!(io::stderr(), "bench print: {} records so far", seen.number);
         }
     };
-    sheet::print(input, output, Board::default(), progress).map_err(|stopped| match stopped {
+    let printed = sheet::print(input, output, Board::default(), progress);
+    printed.map(|_| ()).map_err(|stopped| match stopped {
         Stopped::Write(error) => unwritten(error),
         Stopped::Read { record, error } => {
             Failure::Told(format!("cannot read record {record}: {error}"))
@@ -134,6 +154,39 @@ fn generate(args: &[&str]) -> Result<Vec<u8>, Failure> {
     Ok(style.file(seed, count))
 }
 
+fn compare(args: &[&str]) -> Result<(), Failure> {
+    let wanted = Wanted::read(args).map_err(Failure::Usage)?;
+    launch::check_there(&wanted.program, "trackprint").map_err(Failure::Told)?;
+    let rival = Rival::new(&wanted.program).map_err(Failure::Told)?;
+    let mut told = Instant::now();
+    let progress = |step: Step| {
+        let what = match step {
+            Step::Shrinking(file) => format!("{file} differs; looking for the fewest records"),
+            Step::Compared(report) if told.elapsed() >= PROGRESS_EVERY => {
+                told = Instant::now();
+                format!("{} records so far", report.tally.records())
+            }
+            Step::Compared(_) => return,
+        };
+        let _ = writeln!(io::stderr(), "bench compare: {what}");
+    };
+    let report = compare::compare(&rival, &wanted.sources(), progress).map_err(Failure::Told)?;
+    tell(&report)
+}
+
+/// Tells the difference, if there is one, and the tally.
+fn tell(report: &Report) -> Result<(), Failure> {
+    let Some(found) = &report.found else {
+        return write(report.told().as_bytes());
+    };
+    let shown = found.show(&bench_folder().join("target")).map_err(Failure::Told)?;
+    match write(format!("{}\n{}", shown.text, report.told()).as_bytes()) {
+        // Even if nobody reads it any more.
+        Ok(()) | Err(Failure::Closed) => Err(Failure::Differs),
+        Err(other) => Err(other),
+    }
+}
+
 fn questions(args: &[&str]) -> Result<Vec<u8>, Failure> {
     let [name] = args else {
         return Err(Failure::Usage("questions takes NAME".to_string()));
@@ -143,20 +196,43 @@ fn questions(args: &[&str]) -> Result<Vec<u8>, Failure> {
 }
 
 fn time(args: &[&str]) -> Result<(), Failure> {
-    let program = match args {
-        [] => timing::proved_program(),
-        // A bare name is a file here, not a command to look for.
-        [program] => PathBuf::from(".").join(program),
-        _ => return Err(Failure::Usage("time takes [PROGRAM]".to_string())),
-    };
-    timing::check_there(&program).map_err(Failure::Told)?;
-    let pair = Pair { peer: peer::built().map_err(Failure::Told)?, program };
-    write(timing::head().as_bytes())?;
+    // A bare name is a file here, not a command to look for.
+    let here = |program: &str| PathBuf::from(".").join(program);
+    match args {
+        [] => time_questions(timing::proved_program()),
+        ["sheet"] => time_sheets(trackprint()),
+        ["sheet", program] => time_sheets(here(program)),
+        [program] => time_questions(here(program)),
+        _ => Err(Failure::Usage("time takes [sheet] [PROGRAM]".to_string())),
+    }
+}
+
+fn time_questions(program: PathBuf) -> Result<(), Failure> {
+    launch::check_there(&program, "ask").map_err(Failure::Told)?;
+    let (pair, way) = beside(Peer::Questions, program).map_err(Failure::Told)?;
+    write(timing::head(&way).as_bytes())?;
     for kind in &KINDS {
         let row = timing::row(kind.name, &pair, timing::RUN).map_err(Failure::Told)?;
         write(row.as_bytes())?;
     }
     Ok(())
+}
+
+fn time_sheets(program: PathBuf) -> Result<(), Failure> {
+    launch::check_there(&program, "trackprint").map_err(Failure::Told)?;
+    let (pair, way) = beside(Peer::Sheet, program).map_err(Failure::Told)?;
+    write(sheet_timing::head(&way).as_bytes())?;
+    for kind in &sheet_timing::KINDS {
+        let row = sheet_timing::row(kind, &pair, MAX_RECORDS).map_err(Failure::Told)?;
+        write(row.as_bytes())?;
+    }
+    write(sheet_timing::foot().as_bytes())
+}
+
+/// The program with its peer, to be started in the same way.
+fn beside(peer: Peer, program: PathBuf) -> Result<(Pair, Way), String> {
+    let way = Way::of(&program)?;
+    Ok((Pair { peer: peer.built(&way)?, program }, way))
 }
 
 fn read() -> Result<Vec<u8>, Failure> {

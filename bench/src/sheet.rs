@@ -74,28 +74,48 @@ impl From<io::Error> for Stopped {
     }
 }
 
-/// Prints the sheet of a file. `progress` is told each record's number.
+/// A record that has just been answered, and the board after it.
+pub struct Seen<'a> {
+    pub number: usize,
+    pub piece: &'a [u8],
+    pub answer: &'a Answer,
+    pub board: &'a Board,
+}
+
+/// What the last line of a sheet says.
+#[derive(Clone, Copy, PartialEq, Eq, Debug)]
+pub enum Last {
+    End,
+    Cut,
+}
+
+/// Prints the sheet of a file. `watch` is shown each record with its answer.
 pub fn print(
     input: impl Read,
     mut output: impl Write,
     mut board: Board,
-    mut progress: impl FnMut(usize),
-) -> Result<(), Stopped> {
+    mut watch: impl FnMut(&Seen),
+) -> Result<Last, Stopped> {
     let mut pieces = Pieces::new(input);
-    loop {
+    let last = loop {
         let number = pieces.count() + 1;
         match pieces.read() {
-            Ok(Next::Piece(piece)) => write_line(&mut output, number, &board.take(piece))?,
-            Ok(Next::Cut) => break writeln!(output, "cut")?,
-            Ok(Next::End) => break writeln!(output, "end")?,
+            Ok(Next::Piece(piece)) => {
+                let answer = board.take(piece);
+                write_line(&mut output, number, &answer)?;
+                watch(&Seen { number, piece, answer: &answer, board: &board });
+            }
+            Ok(Next::Cut) => break Last::Cut,
+            Ok(Next::End) => break Last::End,
             Err(error) => {
                 output.flush()?;
                 return Err(Stopped::Read { record: number, error });
             }
         }
-        progress(number);
-    }
-    Ok(output.flush()?)
+    };
+    output.write_all(if last == Last::Cut { b"cut\n" } else { b"end\n" })?;
+    output.flush()?;
+    Ok(last)
 }
 
 fn write_line(output: &mut impl Write, number: usize, answer: &Answer) -> io::Result<()> {

@@ -1,12 +1,13 @@
 //! Counts what the records of a file come to.
 
 use std::fmt;
-use std::io::{self, Read};
+use std::io::{self, Read, Write};
 
-use crate::board::{Answer, Board};
+use crate::board::Board;
 use crate::code::Code;
-use crate::limits::MAX_RUNS;
-use crate::sheet::{Next, Pieces};
+use crate::limits::{MAX_RUNS, MAX_SIDE};
+use crate::record::Record;
+use crate::sheet::{self, Last, Seen, Stopped};
 
 #[derive(Clone, Default)]
 pub struct Tally {
@@ -17,33 +18,37 @@ pub struct Tally {
     pub detours: usize,
     /// Accepted wires by their number of runs.
     pub runs: [usize; MAX_RUNS + 1],
+    /// Asks, accepted or not, on boards of the largest size.
+    pub widest_asks: usize,
     pub cut: bool,
 }
 
 impl Tally {
     /// Counts the records of a file, as far as its sheet goes.
     pub fn of(input: impl Read) -> io::Result<Tally> {
-        let mut tally = Tally::default();
-        let mut board = Board::default();
-        let mut pieces = Pieces::new(input);
-        loop {
-            match pieces.read()? {
-                Next::Piece(piece) => tally.count(&board.take(piece)),
-                Next::Cut => {
-                    tally.cut = true;
-                    return Ok(tally);
-                }
-                Next::End => return Ok(tally),
-            }
-        }
+        Tally::printing(input, io::sink()).map_err(|stopped| match stopped {
+            Stopped::Read { error, .. } | Stopped::Write(error) => error,
+        })
     }
 
-    fn count(&mut self, answer: &Answer) {
-        self.codes[usize::from(answer.code.number())] += 1;
-        if let Some(wire) = &answer.wire {
+    /// Counts the records of a file while its sheet is printed.
+    pub fn printing(input: impl Read, output: impl Write) -> Result<Tally, Stopped> {
+        let mut tally = Tally::default();
+        let last = sheet::print(input, output, Board::default(), |seen| tally.count(seen))?;
+        tally.cut = last == Last::Cut;
+        Ok(tally)
+    }
+
+    fn count(&mut self, seen: &Seen) {
+        self.codes[usize::from(seen.answer.code.number())] += 1;
+        if let Some(wire) = &seen.answer.wire {
             self.wires += 1;
             self.detours += usize::from(wire.detour() > 0);
             self.runs[wire.run_count()] += 1;
+        }
+        let widest = seen.board.frame().is_some_and(|f| f.w == MAX_SIDE && f.h == MAX_SIDE);
+        if widest && matches!(Record::read(seen.piece), Some(Record::Ask { .. })) {
+            self.widest_asks += 1;
         }
     }
 
@@ -56,6 +61,7 @@ impl Tally {
         sum(&mut self.runs, &other.runs);
         self.wires += other.wires;
         self.detours += other.detours;
+        self.widest_asks += other.widest_asks;
         self.cut |= other.cut;
     }
 
@@ -70,10 +76,26 @@ impl fmt::Display for Tally {
         for (code, count) in self.codes.iter().enumerate() {
             writeln!(f, "code {code}: {count}")?;
         }
-        writeln!(f, "accepted lays and asks {}, with a detour {}", self.wires, self.detours)?;
+        writeln!(
+            f,
+            "accepted lays and asks {}{}, with a detour {}{}",
+            self.wires,
+            share(self.wires, self.records()),
+            self.detours,
+            share(self.detours, self.wires)
+        )?;
+        writeln!(f, "asks on {MAX_SIDE} x {MAX_SIDE}: {}", self.widest_asks)?;
         for (runs, count) in self.runs.iter().enumerate().filter(|(_, count)| **count > 0) {
             writeln!(f, "{runs} runs: {count}")?;
         }
         Ok(())
+    }
+}
+
+/// A part of a whole, in brackets; nothing if there is no whole.
+fn share(part: usize, whole: usize) -> String {
+    match whole {
+        0 => String::new(),
+        _ => format!(" ({:.1} %)", 100.0 * part as f64 / whole as f64),
     }
 }

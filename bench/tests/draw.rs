@@ -3,7 +3,9 @@
 
 mod common;
 
-use bench::draw::Scene;
+use bench::draw::{Scene, Versus};
+use bench::geometry::Point;
+use bench::record::Pins;
 use common::{ask, bounds, keepout, lay};
 
 fn svg(records: &[Vec<u8>]) -> String {
@@ -53,6 +55,31 @@ fn every_item_is_drawn() {
     assert_eq!(count("class=\"wire\""), 1 + 1);
     assert_eq!(count("class=\"last\""), 1 + 1);
     assert_eq!(count("class=\"box\""), 1 + 1);
+}
+
+#[test]
+fn two_answers_are_drawn() {
+    let file = [bounds(10, 10, 1), keepout(1, 3, 2, 6, 8), ask(0, 0, 9, 9)].concat();
+    let (s, t) = (Point::new(1, 5), Point::new(8, 5));
+    let svg = |own: &[Point], other: &[Point]| {
+        let versus = Versus { pins: Some(Pins { s, t }), own: own.to_vec(), other: other.to_vec() };
+        Scene::of(file.as_slice()).expect("memory can be read").with(versus).svg()
+    };
+    let lines = |svg: &str, class: &str| {
+        let line = |line: &&str| line.starts_with("<polyline ") && line.contains(class);
+        svg.lines().filter(line).count()
+    };
+    let both = svg(&[s, Point::new(1, 8), Point::new(8, 8), t], &[s, t]);
+    assert_well_formed(&both);
+    assert_eq!((lines(&both, "\"last\""), lines(&both, "\"other\"")), (1, 1));
+    for text in [">second router<", ">program<", ">s<", ">t<", "two answers that differ"] {
+        assert!(both.contains(text), "{text} is missing");
+    }
+    // One of them may have no wire; the pins are there all the same.
+    let one = svg(&[], &[s, t]);
+    assert_well_formed(&one);
+    assert_eq!((lines(&one, "\"last\""), lines(&one, "\"other\"")), (0, 1));
+    assert!(one.contains(">s<") && one.contains(">t<"));
 }
 
 #[test]

@@ -17,7 +17,7 @@ fn tally(style: &Style, seeds: std::ops::Range<u64>) -> Tally {
 fn the_styles_reach_every_code_and_many_wires() {
     let mut all = Tally::default();
     for style in &STYLES {
-        let tally = tally(style, 0..10);
+        let tally = tally(style, 0..6);
         assert!(5 * tally.wires > tally.records(), "{}: few wires\n{tally}", style.name);
         assert!(4 * tally.detours > tally.wires, "{}: few detours\n{tally}", style.name);
         all.add(&tally);

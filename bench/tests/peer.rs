@@ -3,22 +3,23 @@
 mod common;
 
 use std::fs;
-use std::io::Write;
 use std::path::{Path, PathBuf};
-use std::process::{Command, Stdio};
+use std::process::Command;
 use std::sync::OnceLock;
 use std::time::Duration;
 
 use bench::code::Code;
 use bench::geometry::{Point, Rect};
-use bench::peer;
+use bench::peer::{bench_folder, Peer};
 use bench::question::{average_runs, checksum, file, read, Question, Row};
 use bench::questions::KINDS;
 use bench::rng::Rng;
-use bench::timing::{self, Pair};
+use bench::stopwatch::Pair;
+use bench::timing;
+use common::programs::{self, compiled, printed};
 
 fn bytes_of(name: &str) -> Vec<u8> {
-    let path = peer::bench_folder().join("questions").join(name).with_extension("q");
+    let path = bench_folder().join("questions").join(name).with_extension("q");
     fs::read(path).expect("a question file")
 }
 
@@ -26,39 +27,14 @@ fn questions_of(name: &str) -> Vec<Question> {
     read(&bytes_of(name)).expect("a whole question file")
 }
 
-/// The peer, compiled anew, so that a missing compiler is noticed.
 fn sound() -> &'static Path {
     static BINARY: OnceLock<PathBuf> = OnceLock::new();
-    BINARY.get_or_init(|| compiled("sound", |source| source.to_string()))
-}
-
-fn compiled(name: &str, change: impl Fn(&str) -> String) -> PathBuf {
-    let folder = Path::new(env!("CARGO_TARGET_TMPDIR"));
-    let (source, binary) = (folder.join(format!("{name}.c")), folder.join(name));
-    let text = fs::read_to_string(peer::source()).expect("the peer's source");
-    fs::write(&source, change(&text)).expect("a folder to write to");
-    peer::compile(&source, &binary).expect("the kit's clang compiles the peer");
-    binary
+    BINARY.get_or_init(|| compiled(Peer::Questions, "sound", str::to_string))
 }
 
 /// The peer with one piece of its source replaced.
 fn spoiled(name: &str, piece: &str, by: &str) -> PathBuf {
-    compiled(name, |source| {
-        assert_eq!(source.matches(piece).count(), 1, "{piece}");
-        source.replace(piece, by)
-    })
-}
-
-/// What a program prints; `None` if it fails.
-fn printed(program: &Path, input: &[u8]) -> Option<String> {
-    let mut child = Command::new(program)
-        .stdin(Stdio::piped())
-        .stdout(Stdio::piped())
-        .spawn()
-        .expect("the program starts");
-    child.stdin.take().expect("a pipe").write_all(input).expect("it reads its input");
-    let output = child.wait_with_output().expect("the program ends");
-    output.status.success().then(|| String::from_utf8(output.stdout).expect("text"))
+    programs::spoiled(Peer::Questions, name, piece, by)
 }
 
 fn agrees(program: &Path, questions: &[Question]) -> bool {
@@ -209,8 +185,9 @@ fn a_difference_ends_the_timing() {
 fn a_late_difference_ends_the_timing() {
     let program = spoiled("late", "rep++", "rep += 2");
     let pair = Pair { peer: sound().to_path_buf(), program };
-    let told =
-        pair.times(&questions_of("mid"), Duration::from_millis(20)).err().expect("a difference");
+    let told = timing::times(&pair, &questions_of("mid"), Duration::from_millis(20))
+        .err()
+        .expect("a difference");
     assert!(told.starts_with("with reps "), "{told}");
 }
 

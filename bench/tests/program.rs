@@ -86,7 +86,7 @@ fn tallies() {
     let lines: Vec<&str> = text(&output.stdout).lines().collect();
     assert_eq!(lines[..2], ["records 10", "code 0: 8"]);
     assert!(lines.contains(&"code 11: 1") && lines.contains(&"code 15: 1"));
-    assert!(lines.contains(&"accepted lays and asks 2, with a detour 1"));
+    assert!(lines.contains(&"accepted lays and asks 2 (20.0 %), with a detour 1 (50.0 %)"));
     assert!(lines.contains(&"4 runs: 2"));
     assert_eq!(output.status.code(), Some(0));
 }
@@ -110,7 +110,7 @@ fn draws() {
 
 #[test]
 fn a_wrong_command_line_shows_the_usage() {
-    let wrong: [(&[&str], &str); 14] = [
+    let wrong: [(&[&str], &str); 21] = [
         (&[], "no command"),
         (&["paint"], "unknown command 'paint'"),
         (&["print", "x"], "print takes nothing"),
@@ -124,7 +124,14 @@ fn a_wrong_command_line_shows_the_usage() {
         (&["questions"], "questions takes NAME"),
         (&["questions", "mid", "2"], "questions takes NAME"),
         (&["questions", "tiny"], "unknown NAME 'tiny'"),
-        (&["time", "ask", "2"], "time takes [PROGRAM]"),
+        (&["time", "ask", "2"], "time takes [sheet] [PROGRAM]"),
+        (&["time", "sheet", "trackprint", "2"], "time takes [sheet] [PROGRAM]"),
+        (&["cases"], "cases takes stdin or stdout"),
+        (&["cases", "stdin", "2"], "cases takes stdin or stdout"),
+        (&["compare", "--records"], "--records lacks its value"),
+        (&["compare", "--records", "-1"], "--records is '-1', not a number"),
+        (&["compare", "--seed", "one"], "--seed is 'one', not a number"),
+        (&["compare", "--style", "small"], "compare does not know --style"),
     ];
     for (args, what) in wrong {
         let output = run(args, b"");

@@ -31,6 +31,16 @@ pub fn broken(maker: &mut Maker) {
     }
 }
 
+/// Records of every kind but bounds, in a file that has had none yet.
+pub fn before_bounds(maker: &mut Maker) {
+    for _ in 0..maker.rng.range(1, 20) {
+        let record = plain(maker);
+        if !matches!(record, Record::Bounds { .. }) {
+            maker.put(record);
+        }
+    }
+}
+
 /// Appends a malformed record.
 fn damaged(maker: &mut Maker) {
     let mut bytes = plain(maker).bytes();

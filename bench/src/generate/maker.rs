@@ -30,14 +30,19 @@ pub struct Maker {
 }
 
 impl Maker {
-    pub fn new(seed: u64, count: usize) -> Maker {
+    pub fn new(seed: u64) -> Maker {
         Maker {
             rng: Rng::new(seed),
             board: Board::default(),
             file: Vec::new(),
-            left: count,
+            left: 0,
             ends_short: false,
         }
+    }
+
+    /// Asks for that many records more.
+    pub fn want(&mut self, count: usize) {
+        self.left += count;
     }
 
     /// How many records are still wanted.

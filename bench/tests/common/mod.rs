@@ -2,6 +2,7 @@
 #![allow(dead_code)] // each test file uses its own part
 
 pub mod naive;
+pub mod programs;
 
 use bench::board::Board;
 use bench::fault::Fault;

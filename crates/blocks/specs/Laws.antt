@@ -9,3 +9,5 @@ pub mod Scanned
 pub mod Grown
 pub mod Added
 pub mod Board
+-- two items against each other
+pub mod Meeting

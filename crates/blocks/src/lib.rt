@@ -6,13 +6,14 @@ ghost use mathlib.Core.Path.{_≡_};
 ghost use Prim.Native.Nat.{_<_, _≤_, min, max};
 ghost use mathlib.Core.List.{[], _∷_};
 ghost use Rattle.paper.specs.Limits.{most-blocks, most-runs};
-ghost use Rattle.paper.specs.Grid.{Meets};
-ghost use Rattle.paper.specs.Layout.{wires};
+ghost use Rattle.paper.specs.Grid.{Meets, Blocked};
+ghost use Rattle.paper.specs.Layout.{wires, Meet};
 ghost use Rattle.paper.specs.Padding.{WellFormed};
-ghost use Rattle.paper.specs.Laws.Back.{layoutOf};
+ghost use Rattle.paper.specs.Laws.Back.{thingOf, layoutOf};
 ghost use Rattle.paper.specs.Laws.Says.{Says};
 ghost use Rattle.blocks.specs.Flat.{span, placeArea, Fits, looked, FirstIs, packed, Held, HeldOf, sortTo};
-ghost use Rattle.blocks.specs.Growing.{withBlock, withEnd, stretchAt, Room, Grows, Adds};
+ghost use Rattle.blocks.specs.Growing.{withBlock, withEnd, stretchAt, stretched, Room, Grows, Adds};
+ghost use Rattle.blocks.specs.Meeting.{Placed, blockNumber, keptFrom};
 
 // The blocks of at most 46 items, in the items' order. Those of item i stand from first[i] up to first[i + 1].
 // Block k is the area from (x0[k], y0[k]) to (x1[k], y1[k]), widened by c[k] on all four sides. Places not used hold 0.
@@ -224,4 +225,58 @@ pub fn of_board(board: Board, to_wire: bool) -> Blocks
         return gather(board, board.size.clearance);
     }
     gather(board, 0)
+}
+
+// ---- two items
+
+// How many blocks an item with so many runs is.
+pub fn block_number(runs: u8) -> usize
+    ensures { λ r. ⌜ r ≡ blockNumber runs ⌝ }
+{
+    if runs > 0 { runs as usize } else { 1 }
+}
+
+// How far two items with so many runs stay from each other.
+fn kept_from(a: u8, b: u8, c: u16) -> u16
+    ensures { λ r. ⌜ r ≡ keptFrom a b c ⌝ }
+{
+    if a == 0 {
+        return 0;
+    }
+    if b == 0 { 0 } else { c }
+}
+
+// Whether one of the item's first n stretches, widened by c, blocks the place.
+fn near(item: Item, n: usize, c: u16, p: Place) -> bool
+    requires { ⌜ n ≤ most-runs ⌝ }
+    ensures { λ r. ⌜ Says r (Blocked (stretched item n c) (placeArea p)) ⌝ }
+{
+    let mut k: usize = 0;
+    while k < n {
+        let q = stretch(item, k);
+        if meets(q.x0, q.x1, c, p.x0, p.x1) && meets(q.y0, q.y1, c, p.y0, p.y1) {
+            return true;
+        }
+        k += 1;
+    }
+    false
+}
+
+// Whether a place of u is blocked by t. The arrays are not built for it.
+pub fn meet(t: Item, u: Item, c: u16) -> bool
+    requires { ⌜ Placed t × Placed u ⌝ }
+    ensures { λ r. ⌜ Says r (Meet c (thingOf t) (thingOf u)) ⌝ }
+{
+    let d = kept_from(t.runs, u.runs, c);
+    let n = block_number(t.runs);
+    let m = block_number(u.runs);
+    let mut k: usize = 0;
+    while k < m {
+        let p = stretch(u, k);
+        if near(t, n, d, p) {
+            return true;
+        }
+        k += 1;
+    }
+    false
 }

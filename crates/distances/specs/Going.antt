@@ -29,6 +29,13 @@ set-total [] i v h k = absurd (omega arith)
 set-total (x ∷ xs) zero v h k = omega arith
 set-total (x ∷ xs) (suc i) v h k = omega (arith, set-total xs i v (omega arith) k)
 
+-- a table with a number set
+pub set-table : (d : List ℕ) (i v : ℕ) → Table d → v ≤ none → Table (set d i v)
+set-table d i v t h = record { long = length-set d i v ∙ t .long; each = λ j. set-small d i j v (t .each j) h }
+
+pub less-table : (d : List ℕ) (i v : ℕ) → Table d → v < getD d i 0 → Table (set d i v)
+less-table d i v t h = set-table d i v t (omega (arith, h, t .each i))
+
 -- ---- a change
 
 module _ (shut : List ℕ) (from to edge step count width : ℕ) where
@@ -55,7 +62,7 @@ pub record Going (d₀ d shut : List ℕ) (from to edge step count width : ℕ) 
   pub kept : changed ≡ false → (d ≡ d₀) × Done shut from to edge step count width d k
   pub fell : changed ≡ true → total d < total d₀
 
-next : (k at step : ℕ) → at ≡ k * step → at + step ≡ (k + 1) * step
+pub next : (k at step : ℕ) → at ≡ k * step → at + step ≡ (k + 1) * step
 next k at step e = omega (arith, subst (λ j. j * step ≡ k * step + step) (sym (add-one k)) (suc-mul k step))
 
 -- a place of the line, counted by `at`
@@ -99,7 +106,7 @@ module _ (d₀ shut : List ℕ) (from to edge step count width : ℕ) where
   free-there d a b s sm h =
       ⊎-elim (λ c. c .0) (λ c. absurd (omega (arith, sm .each b, cost-shut s width (c .0)))) (eqb-cases s 0)
 
-  lowers : (d : List ℕ) (at k : ℕ) → at ≡ k * step → Table d → k < count
+  pub lowers : (d : List ℕ) (at k : ℕ) → at ≡ k * step → Table d → k < count
       → getD d (from + at) 0 + costOf (getD shut (edge + at) 0) width < getD d (to + at) 0
       → Change shut from to edge step count width d (set d (to + at) (getD d (from + at) 0 + costOf (getD shut (edge + at) 0) width))
   lowers d at k e sm on h =
@@ -124,10 +131,7 @@ module _ (d₀ shut : List ℕ) (from to edge step count width : ℕ) where
       record {
         place = next k at step (g .place);
         upto = omega arith;
-        table = record {
-          long = length-set d (to + at) v ∙ g .table .long;
-          each = λ j. set-small d (to + at) j v (g .table .each j) (omega (arith, h, g .table .each (to + at)));
-        };
+        table = less-table d (to + at) v (g .table) h;
         chain = more (g .chain) c;
         kept = λ e. absurd (let z : _≡_ {A = ℕ} 0 1 = cc in omega arith);
         fell = λ e. fallen changed (g .kept) (g .fell) t;

@@ -8,3 +8,4 @@ pub mod Ways
 pub mod Reached
 pub mod Found
 pub mod Start
+pub mod Spread

@@ -10,7 +10,8 @@ use mathlib.Core.Logic.{_⊎_, inl, inr, ⊎-elim}
 use lib.ListN.{length, getD, set, replicate, length-set, length-replicate, getD-replicate, List·getD-eq-default}
 use lib.Seq.{ext-getD}
 use Rattle.paper.specs.Laws.Among.{eqb-cases}
-use Rattle.distances.specs.Lower.{none}
+use Rattle.distances.specs.Lower.{none, Table}
+use Rattle.distances.specs.Going.{set-table}
 use Rattle.distances.specs.Ways.{cell, Map, Distances}
 use Rattle.distances.specs.Reached.{Good, MapFits, reached, reached-none, reached-set, way-in, cell-inj, after}
 
@@ -27,6 +28,16 @@ unreached = record {
   count = reached-none 9216;
 }
 
+pub unreached-table : (u : List ℕ) → Unreached u → Table u
+unreached-table u z = record {
+  long = z .long;
+  each = λ c.
+      elim (decLt c 9216) [
+        | yes h ↦ omega (arith, z .each c h)
+        | no h ↦ omega (arith, List·getD-eq-default u 0 {n = c} (omega (arith, z .long)))
+      ];
+}
+
 module _ (m : Map) (a b : ℕ) (ha : a < m .nx) (hb : b < m .ny) (hx : m .nx ≤ 96) (hy : m .ny ≤ 96) (u : List ℕ) (z : Unreached u) where
   t : ℕ
   t = cell a b
@@ -34,13 +45,6 @@ module _ (m : Map) (a b : ℕ) (ha : a < m .nx) (hb : b < m .ny) (hx : m .nx ≤
   t-in : t < 9216
   unfolding t
   t-in = omega arith
-
-  top : (c : ℕ) → getD u c 0 ≤ none
-  top c =
-      elim (decLt c 9216) [
-        | yes h ↦ omega (arith, z .each c h)
-        | no h ↦ omega (arith, List·getD-eq-default u 0 {n = c} (omega (arith, z .long)))
-      ]
 
   at-c : (c : ℕ) → ((c ≡ t) × (getD (set u t 0) c 0 ≡ 0)) ⊎ ((¬ (c ≡ t)) × (getD (set u t 0) c 0 ≡ getD u c 0))
   at-c c = after u t 0 c (omega (arith, t-in, z .long))
@@ -52,10 +56,7 @@ module _ (m : Map) (a b : ℕ) (ha : a < m .nx) (hb : b < m .ny) (hx : m .nx ≤
   pub good-start : Good m a b (set u (cell a b) 0)
   unfolding t
   good-start = record {
-    table = record {
-      long = length-set u t 0 ∙ z .long;
-      each = λ c. ⊎-elim (λ q. omega (arith, q .1)) (λ q. omega (arith, q .1, top c)) (at-c c);
-    };
+    table = set-table u t 0 (unreached-table u z) (omega arith);
     target = ⊎-elim (λ q. q .1) (λ q. absurd (q .0 refl)) (at-c t);
     held = λ i j hi hj h n.
         ⊎-elim (λ q. absurd (n (cell-inj i j a b (omega arith) (omega arith) (q .0))))

@@ -5,14 +5,13 @@ use native.Mathlib.Nat.{eq-or-lt-of-le, le-of-suc-le-suc}
 use native.Mathlib.Decide.{decLt, decLe}
 use native.Mathlib.Omega.{arith}
 use mathlib.Core.Path.{_≡_, refl, ap, subst, _∙_}
-use mathlib.Core.Bool.{Bool, true, false, not}
 use mathlib.Core.Logic.{_⊎_, inl, inr, ⊎-elim, _↔_}
 use mathlib.Core.List.{List}
 use lib.ListN.{length, getD, set, length-set}
 use lib.Seq.{getD-set-same, getD-set-other}
 use Rattle.paper.specs.Grid.{Meets}
 use Rattle.edges.specs.declared.Range.{Range}
-use Rattle.edges.specs.Ranges.{Rising, Below, one, Meeting}
+use Rattle.edges.specs.Ranges.{Rising, Below, Meeting}
 use Rattle.edges.specs.Marks.{cell, Filled, In, Boxed}
 
 -- ---- ranges
@@ -30,18 +29,15 @@ below-iff at count v r rise b i h = (
     past : r ≤ i → v ≤ getD at i 0
     past q = ⊎-elim (λ e. omega (arith, b .here (omega arith), ap (λ k. getD at k 0) e)) (λ k. omega (arith, b .here (omega arith), rise .rise r i k h)) (eq-or-lt-of-le q)
 
--- where the low end is counted from: a unit further for a track than for a slab
-pub counted : (low lo : ℕ) (slab : Bool) → ((not slab ≡ true) × (low ≡ lo + 1)) ⊎ ((not slab ≡ false) × (low ≡ lo)) → low + one slab ≡ lo + 1
-counted low lo true (inl h) = absurd (let z : _≡_ {A = ℕ} 0 1 = cc in omega arith)
-counted low lo true (inr h) = omega (arith, h .1)
-counted low lo false (inl h) = omega (arith, h .1)
-counted low lo false (inr h) = absurd (let z : _≡_ {A = ℕ} 0 1 = cc in omega arith)
+-- found with a number that is v in other words
+pub below-as : {at : List ℕ} {count u r : ℕ} (v : ℕ) → Below at count u r → u ≡ v → Below at count v r
+below-as {at} {count} {u} {r} v b e = subst (λ n. Below at count n r) e b
 
 -- the low end is `low` less c
-pub meeting : (at : List ℕ) (count lo hi c low from to : ℕ) (slab : Bool) → Rising at count → low + one slab ≡ lo + 1
-    → Below at count (low - c) from → Below at count (hi + c) to → Meeting at count lo hi c slab (record { from = from; to = to })
+pub meeting : (at : List ℕ) (count lo hi c reach low from to : ℕ) → Rising at count → low + reach ≡ lo + 1
+    → Below at count (low - c) from → Below at count (hi + c) to → Meeting at count lo hi c reach (record { from = from; to = to })
 unfolding Meets
-meeting at count lo hi c low from to slab rise e p q = record {
+meeting at count lo hi c reach low from to rise e p q = record {
   starts = p .few;
   ends = q .few;
   those = λ i h.

@@ -1,7 +1,6 @@
 -- One axis: which tracks, and which slabs between tracks, an open interval meets.
 -- Assumes nothing.
 use Prim.Native.Nat.{ℕ, _+_, _≤_, _<_}
-use mathlib.Core.Bool.{Bool, true, false}
 use mathlib.Core.List.{List}
 use mathlib.Core.Logic.{_↔_}
 use lib.ListN.{getD}
@@ -16,16 +15,11 @@ pub record Below (at : List ℕ) (count v r : ℕ) : Type 0 where
   pub under : (i : ℕ) → i < r → getD at i 0 < v
   pub here : r < count → v ≤ getD at r 0
 
--- a slab is told by its low track: its first unit edge goes from there
-abbrev pub one : Bool → ℕ
-one true = 1
-one false = 0
-
 abbrev pub span : ℕ → ℕ → ℕ → Span
 span lo hi c = record { lo = lo; hi = hi; c = c }
 
--- i is in the range just if the interval meets the track i, or the first unit edge of the slab from i on
-pub record Meeting (at : List ℕ) (count lo hi c : ℕ) (slab : Bool) (r : Range) : Type 0 where
+-- i is in the range just if the interval meets the track i (reach 0), or the first unit edge of the slab from i on (reach 1)
+pub record Meeting (at : List ℕ) (count lo hi c reach : ℕ) (r : Range) : Type 0 where
   pub starts : r .from ≤ count
   pub ends : r .to ≤ count
-  pub those : (i : ℕ) → i < count → ((r .from ≤ i) × (i < r .to)) ↔ Meets (span lo hi c) (getD at i 0) (getD at i 0 + one slab)
+  pub those : (i : ℕ) → i < count → ((r .from ≤ i) × (i < r .to)) ↔ Meets (span lo hi c) (getD at i 0) (getD at i 0 + reach)

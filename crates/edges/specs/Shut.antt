@@ -5,27 +5,26 @@ use native.Mathlib.Nat.{eq-or-lt-of-le, le-of-suc-le-suc}
 use native.Mathlib.Decide.{decLt, decLe}
 use native.Mathlib.Omega.{arith}
 use mathlib.Core.Path.{_≡_, subst, _∙_}
-use mathlib.Core.Bool.{Bool, true, false}
 use mathlib.Core.Logic.{_⊎_, inl, inr, ⊎-elim, _↔_}
 use mathlib.Core.List.{List}
 use lib.ListN.{getD}
 use Rattle.paper.specs.Grid.{Axis, level, upright, Meets, Block, Hits, step}
 use Rattle.edges.specs.declared.Range.{Range}
-use Rattle.edges.specs.Ranges.{one, Meeting}
+use Rattle.edges.specs.Ranges.{Meeting}
 use Rattle.edges.specs.Marks.{cell, In, Boxed, Shuts, Added, Blank, Shut, Marked}
 
--- on which axis a way lies across a slab
-abbrev pub on-x : Axis → Bool
-on-x level = true
-on-x upright = false
+-- how far the first unit edge of a way reaches on each axis
+abbrev pub on-x : Axis → ℕ
+on-x level = 1
+on-x upright = 0
 
-abbrev pub on-y : Axis → Bool
-on-y level = false
-on-y upright = true
+abbrev pub on-y : Axis → ℕ
+on-y level = 0
+on-y upright = 1
 
 -- a block shuts a way where it meets it on both axes
 shuts-iff : (a : Axis) (b : Block) (xs ys : List ℕ) (i j : ℕ)
-    → Shuts a b xs ys i j ↔ (Meets (b .along-x) (getD xs i 0) (getD xs i 0 + one (on-x a)) × Meets (b .along-y) (getD ys j 0) (getD ys j 0 + one (on-y a)))
+    → Shuts a b xs ys i j ↔ (Meets (b .along-x) (getD xs i 0) (getD xs i 0 + on-x a) × Meets (b .along-y) (getD ys j 0) (getD ys j 0 + on-y a))
 unfolding Shuts Hits Meets step
 shuts-iff level b xs ys i j = (λ h. omega arith, λ h. omega arith)
 shuts-iff upright b xs ys i j = (λ h. omega arith, λ h. omega arith)

@@ -1,6 +1,5 @@
 // Which ways between neighbouring crossings are shut: marked block by block, a rectangle of marks each.
 ghost use mathlib.Core.Path.{_≡_};
-ghost use mathlib.Core.Bool.{Bool};
 ghost use Prim.Native.Nat.{ℕ, _+_, _*_, _<_, _≤_};
 ghost use lib.ListN.{length, getD};
 ghost use Rattle.edges.specs.Ranges.{Rising, Below, Meeting};
@@ -50,17 +49,14 @@ fn less(a: u32, b: u32) -> u32
     if a < b { 0 } else { a - b }
 }
 
-// The tracks that lie in the open interval from lo - c to hi + c; of slabs, told by their low track, those that it meets.
-fn met(at: &[u16; 96], count: usize, lo: u16, hi: u16, c: u16, slab: bool) -> Range
-    requires { ⌜ (count ≤ 96) × Rising (now at) count ⌝ }
-    ensures { λ r. ⌜ Meeting (now (at .entry)) count lo hi c slab r ⌝ }
+// The tracks from which a step of length `reach`, which is 0 or 1, meets the open interval from lo - c to hi + c: the tracks that lie in it,
+// or the slabs, told by their low track, whose first unit it meets.
+fn met(at: &[u16; 96], count: usize, lo: u16, hi: u16, c: u16, reach: u32) -> Range
+    requires { ⌜ (count ≤ 96) × Rising (now at) count × (reach ≤ 1) ⌝ }
+    ensures { λ r. ⌜ Meeting (now (at .entry)) count lo hi c reach r ⌝ }
 {
     let m = wide(c);
-    let mut low = wide(lo);
-    if !slab {
-        low = low + 1;
-    }
-    let from = below(at, count, less(low, m));
+    let from = below(at, count, less(wide(lo) + 1 - reach, m));
     let to = below(at, count, wide(hi) + m);
     Range { from, to }
 }
@@ -103,11 +99,11 @@ fn mark_block(
     ensures { λ _. ⌜ Added (now (flat .entry)) (now (flat .exit)) nx ny (Shuts level (block b) (now (xs .entry)) (now (ys .entry))) ×
         Added (now (tall .entry)) (now (tall .exit)) nx ny (Shuts upright (block b) (now (xs .entry)) (now (ys .entry))) ⌝ }
 {
-    let slabs_x = met(xs, nx, b.x0, b.x1, b.c, true);
-    let tracks_y = met(ys, ny, b.y0, b.y1, b.c, false);
+    let slabs_x = met(xs, nx, b.x0, b.x1, b.c, 1);
+    let tracks_y = met(ys, ny, b.y0, b.y1, b.c, 0);
     mark(flat, slabs_x, tracks_y);
-    let tracks_x = met(xs, nx, b.x0, b.x1, b.c, false);
-    let slabs_y = met(ys, ny, b.y0, b.y1, b.c, true);
+    let tracks_x = met(xs, nx, b.x0, b.x1, b.c, 0);
+    let slabs_y = met(ys, ny, b.y0, b.y1, b.c, 1);
     mark(tall, tracks_x, slabs_y);
 }
 

@@ -15,6 +15,8 @@ pub mod Traced
 pub mod Next
 pub mod Kept
 pub mod Shape
+pub mod Filled
+pub mod Standing
 -- demand 3
 pub mod Story
 pub mod Alike

@@ -38,14 +38,14 @@ module _ (m : Map) (d : List ℕ) (s t : At) (p : Pins) where
         e ∙ ap (λ ps. over 0 (map f ps) (replicate 25 0)) (from-start (spot m (crossing s)) v)
         ∙ over-zeros 25 (map f (corners (spot m (crossing s)) v)) (omega (arith, length-map (corners (spot m (crossing s)) v) f))
 
-    pub told-few : count ≤ 25 → (w : ℕ) → w ≡ detourFor (distance d (crossing s)) p
-        → Tells m d s t p (record { route = Wire (distance d (crossing s)) w count; xs = xs; ys = ys })
-    told-few h w e = record {
+    pub told-few : count ≤ 25 → (n w : ℕ) → n ≡ distance d (crossing s) → w ≡ detourFor (distance d (crossing s)) p
+        → Tells m d s t p (record { route = Wire n w count; xs = xs; ys = ys })
+    told-few h n w f e = record {
       none-told = λ z. absurd (far z);
       few-told = λ v l z k.
           let a = wrote (λ q. q .x) xs v l k (tr .xs-are v l) in
           let b = wrote (λ q. q .y) ys v l k (tr .ys-are v l) in
           let c = counted v l in
-          λ i. record { route = Wire (distance d (crossing s)) (e i) (c i); xs = a i; ys = b i };
+          λ i. record { route = Wire (f i) (e i) (c i); xs = a i; ys = b i };
       many-told = λ v l z k. absurd (omega (arith, counted v l));
     }

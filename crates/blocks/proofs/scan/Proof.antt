@@ -7,8 +7,9 @@ use borrow.Author.Count.{below-more}
 use borrow.Author.Needs.{needs}
 use Rattle.paper.specs.Limits.{most-blocks}
 use Rattle.paper.specs.Grid.{Hits}
+use Rattle.paper.specs.Laws.Says.{said, said-not}
 use Rattle.blocks.specs.Flat.{blockAt, placeArea, Stops}
-use Rattle.blocks.specs.Laws.Scanned.{said, said-not, Ahead, ahead-next, ahead-hit, ahead-none}
+use Rattle.blocks.specs.Laws.Scanned.{Ahead, ahead-next, ahead-hit, ahead-none}
 use Rattle.blocks.specs.Laws.Scanned.{not-looked, not-blocked, first-here, none-left}
 use Rattle.blocks.proofs.scan.Statement.{statement}
 use Rattle.blocks.proofs.scan.Tie as tie

@@ -22,7 +22,8 @@ use Rattle.paper.specs.Laws.Apart.{count-blocks}
 use Rattle.blocks.specs.declared.Blocks.{Blocks}
 use Rattle.blocks.specs.Flat.{packed, starts, isWire, flatOf}
 use Rattle.blocks.specs.Growing.{cornerAt, stretchAt, stretched, Carries, Grows, Adds}
-use Rattle.blocks.specs.Laws.Lists.{images-at, listed-is}
+use Rattle.paper.specs.Laws.Filled.{images-at}
+use Rattle.blocks.specs.Laws.Lists.{listed-is}
 use Rattle.blocks.specs.Laws.Held.{length-starts, ends-at}
 
 -- ---- a thing more
@@ -57,7 +58,7 @@ flat-carries c to ts = record {
 origin : Node
 origin = record { x = 0; y = 0 }
 
-nowhere : Area
+pub nowhere : Area
 nowhere = between origin origin
 
 corner-at : (i : ℕ) (ps : List Node) (k : ℕ) → cornerAt (itemOf (wire i ps)) k ≡ getD ps k origin
@@ -79,7 +80,7 @@ rect-stretch i r s f = λ j. record {
   high = record { x = max-eq-right (le-of-lt (f .0)) j; y = max-eq-right (le-of-lt (f .2)) j };
 }
 
-area-at : (s : Size) (t : Thing) → ThingFits s t → (k : ℕ) → k < length (areas t) → stretchAt (itemOf t) k ≡ getD (areas t) k nowhere
+pub area-at : (s : Size) (t : Thing) → ThingFits s t → (k : ℕ) → k < length (areas t) → stretchAt (itemOf t) k ≡ getD (areas t) k nowhere
 unfolding ThingFits areas
 area-at s (keep-out i r) f zero h = rect-stretch i r s (f .1)
 area-at s (keep-out i r) f (suc k) h = absurd (omega arith)

@@ -18,11 +18,12 @@ use Rattle.paper.specs.Layout.{Thing, keep-out, wire, keep-outs, wires, areas, 
 use Rattle.paper.specs.Padding.{filled, itemOf, no-item, boardOf, WellFormed}
 use Rattle.paper.specs.Laws.Back.{layoutOf, well-formed}
 use Rattle.paper.specs.Laws.Shape.{items-few}
+use Rattle.paper.specs.Laws.Filled.{all-at, image-at}
 use Rattle.blocks.specs.declared.Blocks.{Blocks}
 use Rattle.blocks.specs.Flat.{firstAt, flatOf, Held}
 use Rattle.blocks.specs.Growing.{Room, Adds}
-use Rattle.blocks.specs.Laws.Lists.{all-at, image-at}
-use Rattle.blocks.specs.Laws.Held.{thingAt, no-thing, items-are, ends-at, count-take, count-next}
+use Rattle.paper.specs.Laws.Standing.{thingAt, no-thing}
+use Rattle.blocks.specs.Laws.Held.{items-are, ends-at, count-take, count-next}
 use Rattle.blocks.specs.Laws.Added.{runs-are}
 
 -- ---- what a well-formed board draws

@@ -23,7 +23,8 @@ use Rattle.blocks.specs.declared.Look.the-variants.{KeepOuts, Wires, Eit
 use Rattle.blocks.specs.declared.Found.{Found}
 use Rattle.blocks.specs.declared.Found.the-variants.{At, Nothing}
 use Rattle.blocks.specs.Flat.{placeArea, looked, Stops, FirstIs, isWire, Held, HeldOf}
-use Rattle.blocks.specs.Laws.Held.{thingAt, items-are, held-wire, held-blocks}
+use Rattle.paper.specs.Laws.Standing.{thingAt}
+use Rattle.blocks.specs.Laws.Held.{items-are, held-wire, held-blocks}
 
 -- ---- one answer
 

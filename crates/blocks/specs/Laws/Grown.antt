@@ -16,7 +16,8 @@ use Rattle.blocks.specs.declared.Blocks.{Blocks}
 use Rattle.blocks.specs.declared.Place.{Place}
 use Rattle.blocks.specs.Flat.{placeArea, firstAt, listed, packed}
 use Rattle.blocks.specs.Growing.{withBlock, withEnd, stretchAt, stretched, Carries, Grows}
-use Rattle.blocks.specs.Laws.Lists.{filled-more, images-more, length-listed, listed-more}
+use Rattle.paper.specs.Laws.Filled.{filled-more, images-more}
+use Rattle.blocks.specs.Laws.Lists.{length-listed, listed-more}
 
 -- ---- the lists that are held, with one more
 

@@ -15,9 +15,11 @@ use Rattle.paper.specs.Layout.{Thing, keep-out, Sort, areas, sortOf, distance, 
 use Rattle.paper.specs.Laws.Lists.{all-join, all-image, all-always}
 use Rattle.paper.specs.Laws.Apart.{count-blocks}
 use Rattle.paper.specs.Padding.{filled}
+use Rattle.paper.specs.Laws.Standing.{no-thing, thingAt}
 use Rattle.blocks.specs.declared.Blocks.{Blocks}
 use Rattle.blocks.specs.Flat.{span, blockAt, blocksFrom, firstAt, blocksIn, flat, Fits, packed, starts, isWire, flatOf, Held}
-use Rattle.blocks.specs.Laws.Lists.{filled-at, images-at, listed-is}
+use Rattle.paper.specs.Laws.Filled.{filled-at, images-at}
+use Rattle.blocks.specs.Laws.Lists.{listed-is}
 
 -- ---- where each item's blocks start
 
@@ -39,12 +41,6 @@ count-take [] zero = omega arith
 count-take [] (suc i) = omega arith
 count-take (t ∷ ts) zero = omega arith
 count-take (t ∷ ts) (suc i) = omega (arith, count-take ts i)
-
-abbrev pub no-thing : Thing
-no-thing = keep-out 0 (record { x0 = 0; y0 = 0; x1 = 0; y1 = 0 })
-
-abbrev pub thingAt : List Thing → ℕ → Thing
-thingAt ts i = getD ts i no-thing
 
 pub count-next : (ts : List Thing) (i : ℕ) → i < length ts → blockCount (take (suc i) ts) ≡ blockCount (take i ts) + length (areas (thingAt ts i))
 unfolding blockCount

@@ -11,18 +11,11 @@ use mathlib.Core.List.{_∷_}
 use lib.ListN.{getD}
 use lib.Dec.{T}
 use Rattle.paper.specs.Grid.{Any, Hits, Blocked}
-use Rattle.paper.specs.Laws.Says.{Says}
 use Rattle.blocks.specs.declared.Blocks.{Blocks}
 use Rattle.blocks.specs.declared.Place.{Place}
 use Rattle.blocks.specs.declared.Look.{Look}
 use Rattle.blocks.specs.declared.Found.the-variants.{At, Nothing}
 use Rattle.blocks.specs.Flat.{placeArea, blockAt, listed, blocksFrom, blocksIn, looked, Stops, FirstIs}
-
-pub said : {b : Bool} {P : Type 0} → Says b P → b ≡ true → P
-said s e = s .fact (subst T (sym e) tt)
-
-pub said-not : {b : Bool} {P : Type 0} → Says b P → b ≡ false → ¬ P
-said-not s e p = subst T e (s .test p)
 
 -- ---- the blocks of item i, which end at `end`
 

@@ -8,10 +8,10 @@ use Rattle.edges.proofs.mark_block.Statement.{statement}
 use Rattle.edges.proofs.mark_block.Tie as tie
 
 met-requires : tie.Need-met-requires
-met-requires c κs = (c .pre .2, c .pre .4)
+met-requires c κs = (c .pre .2, c .pre .4, omega arith)
 
 met-requires-2 : tie.Need-met-requires-2
-met-requires-2 c κs = (c .before .pre .3, c .before .pre .5)
+met-requires-2 c κs = (c .before .pre .3, c .before .pre .5, omega arith)
 
 mark-requires : tie.Need-mark-requires
 mark-requires c κs =
@@ -21,10 +21,10 @@ mark-requires c κs =
     (p .0, omega (arith, x .starts, p .2), omega (arith, x .ends, p .2), omega (arith, y .ends, p .3))
 
 met-requires-3 : tie.Need-met-requires-3
-met-requires-3 c κs = let p = c .before .before .before .before .pre in (p .2, p .4)
+met-requires-3 c κs = let p = c .before .before .before .before .pre in (p .2, p .4, omega arith)
 
 met-requires-4 : tie.Need-met-requires-4
-met-requires-4 c κs = let p = c .before .before .before .before .before .pre in (p .3, p .5)
+met-requires-4 c κs = let p = c .before .before .before .before .before .pre in (p .3, p .5, omega arith)
 
 mark-requires-2 : tie.Need-mark-requires-2
 mark-requires-2 c κs =

@@ -18,7 +18,7 @@ use Rattle.paper.specs.Grid.{Node, Any, All}
 use Rattle.paper.specs.Wire.{runs}
 use Rattle.paper.specs.Layout.{Thing, keep-out, wire, idOf, ThingFits, ItemsFit, Turn, added, taken, add, Has, undo, CanUndo, Undoes, Layout, Laid, Sound}
 use Rattle.paper.specs.Padding.{filled, itemOf, no-item, addedKind, changeOf, no-change, boardOf, Holds, WellFormed}
-use Rattle.paper.specs.Laws.Lists.{all-has, all-reverse, map-back}
+use Rattle.paper.specs.Laws.Lists.{all-imp, all-has, all-reverse, map-back}
 
 -- ---- reading back
 
@@ -59,7 +59,7 @@ nodes-back [] = refl
 nodes-back (p ∷ ps) = ap (λ l. p ∷ l) (nodes-back ps)
 
 -- a wire with two corners or more
-wire-back : (i : ℕ) (p q : Node) (ps : List Node) → thingOf (itemOf (wire i (p ∷ q ∷ ps))) ≡ wire i (p ∷ q ∷ ps)
+pub wire-back : (i : ℕ) (p q : Node) (ps : List Node) → thingOf (itemOf (wire i (p ∷ q ∷ ps))) ≡ wire i (p ∷ q ∷ ps)
 unfolding thingOf itemOf
 wire-back i p q ps =
     let n : length (p ∷ q ∷ ps) - 1 ≡ suc (length ps) = omega arith in
@@ -110,24 +110,36 @@ turns-fit s ts (taken t ∷ cs) p h =
 
 -- ---- the whole board
 
-laid-back : (l : Layout) → Laid l → layoutOf (boardOf l) ≡ l
+-- an item, a change is read back from the struct as it was
+abbrev pub ReadsBack : Thing → Type 0
+ReadsBack t = thingOf (itemOf t) ≡ t
+
+abbrev pub TurnsBack : Turn → Type 0
+TurnsBack c = turnOf (changeOf c) ≡ c
+
+-- and so is the layout
+pub board-back : (l : Layout) → All ReadsBack (l .items) → All TurnsBack (l .kept) → layoutOf (boardOf l) ≡ l
 unfolding layoutOf boardOf
-laid-back l p =
+board-back l p q =
     let is : map thingOf (take (length (l .items)) (filled no-item most-blocks (map itemOf (l .items)))) ≡ l .items
     = ap (λ ms. map thingOf ms) (take-filled itemOf no-item most-blocks (l .items) (length (l .items)) refl)
-    ∙ map-back (ThingFits (l .size)) itemOf thingOf (thing-back (l .size)) (l .items) (p .fits .each) in
-    let fit : All (λ c. ThingFits (l .size) (subject c)) (reverse (l .kept))
-    = all-reverse _ (l .kept) (turns-fit (l .size) (l .items) (l .kept) (p .fits) (p .undoes)) in
+    ∙ map-back ReadsBack itemOf thingOf (λ t e. e) (l .items) p in
     let cs : reverse (map turnOf (take (length (l .kept)) (filled no-change most-kept (map changeOf (reverse (l .kept)))))) ≡ l .kept
     = ap (λ ms. reverse (map turnOf ms)) (take-filled changeOf no-change most-kept (reverse (l .kept)) (length (l .kept)) (length-reverse (l .kept)))
-    ∙ ap reverse (map-back (λ c. ThingFits (l .size) (subject c)) changeOf turnOf (turn-back (l .size)) (reverse (l .kept)) fit)
+    ∙ ap reverse (map-back TurnsBack changeOf turnOf (λ c e. e) (reverse (l .kept)) (all-reverse TurnsBack (l .kept) q))
     ∙ reverse-reverse (l .kept) in
     λ i. record { size = l .size; items = is i; kept = cs i }
+
+pub laid-reads : (l : Layout) → Laid l → All ReadsBack (l .items) × All TurnsBack (l .kept)
+laid-reads l p = (
+  all-imp _ ReadsBack (thing-back (l .size)) (l .items) (p .fits .each),
+  all-imp _ TurnsBack (turn-back (l .size)) (l .kept) (turns-fit (l .size) (l .items) (l .kept) (p .fits) (p .undoes)),
+)
 
 sound-back : (l : Layout) → Sound l → layoutOf (boardOf l) ≡ l
 unfolding Sound
 sound-back l (inl e) = rw e (unfold layoutOf boardOf in refl)
-sound-back l (inr p) = laid-back l p
+sound-back l (inr p) = let h = laid-reads l p in board-back l (h .0) (h .1)
 
 -- what a board holds is what is read back from it
 pub held : (b : Board) (l : Layout) → Holds b l → l ≡ layoutOf b

@@ -46,7 +46,7 @@ next-lay l i p n w s one h a =
     (wire-apart (l .size .clearance) (i .number) (way p w) (l .items) (laid-clear l p w L a))
     (λ q. h 14 (w, a, q))
 
-next : (l : Layout) (rec : Record) (n : ℕ) (o : Outcome) → Sound l → Plain rec → Spares l rec n → Does l rec o → Sound (o .layout)
+pub next : (l : Layout) (rec : Record) (n : ℕ) (o : Outcome) → Sound l → Plain rec → Spares l rec n → Does l rec o → Sound (o .layout)
 unfolding Does Plain Sound Spared checks
 next l Malformed n o z m h d = absurd d
 next l (Bounds b) n o z m h d = rw d (inr (laid-empty b (h 3)))

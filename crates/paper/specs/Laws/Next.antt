@@ -28,7 +28,7 @@ Spared ((n if p) ∷ cs) k = cond (eqb k n) (¬ p) (Spared cs k)
 Spared ((n unless p) ∷ cs) k = cond (eqb k n) p (Spared cs k)
 
 -- no check of the list gives 0
-unfoldable Coded : List Check → Type 0
+unfoldable pub Coded : List Check → Type 0
 Coded [] = Unit {0}
 Coded ((n if p) ∷ cs) = (1 ≤ n) × Coded cs
 Coded ((n unless p) ∷ cs) = (1 ≤ n) × Coded cs

@@ -15,6 +15,21 @@ pub record Says (b : Bool) (P : Type 0) : Type 0 where
   pub fact : T b → P
   pub test : P → T b
 
+-- what the test has said
+pub said : {b : Bool} {P : Type 0} → Says b P → b ≡ true → P
+said s e = s .fact (subst T (sym e) tt)
+
+pub said-not : {b : Bool} {P : Type 0} → Says b P → b ≡ false → ¬ P
+said-not s e p = subst T e (s .test p)
+
+pub denied : {b : Bool} {P : Type 0} → Says b P → not b ≡ true → ¬ P
+denied {b = true} s e = absurd (subst T (sym e) tt)
+denied {b = false} s e = s .test
+
+pub not-denied : {b : Bool} {P : Type 0} → Says b P → not b ≡ false → P
+not-denied {b = true} s e = s .fact tt
+not-denied {b = false} s e = absurd (subst T e tt)
+
 -- ---- several facts
 
 -- the same fact in other words

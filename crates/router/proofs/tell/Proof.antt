@@ -70,8 +70,8 @@ returns-3 : tie.Need-returns-3
 returns-3 c =
     let s = c .before .before .before .before .before .before .before in
     let e = c .before .before .before .before .before .before .left-at .ensures in
-    rw e (told-few (here s) (s .args .d .now) (s .args .s) (s .args .t) (s .args .p) _ _ _ (c .before .before .trace .ensures)
-    (reached (c .before .before .before .before .before)) (c .before .if2 .left) _ (rw e at (c .detour .ensures)))
+    told-few (here s) (s .args .d .now) (s .args .s) (s .args .t) (s .args .p) _ _ _ (c .before .before .trace .ensures)
+    (reached (c .before .before .before .before .before)) (c .before .if2 .left) _ _ (omega (arith, e)) (rw e at (c .detour .ensures))
 
 pub tell-spec : {M : Type 1} → statement M
 tell-spec =

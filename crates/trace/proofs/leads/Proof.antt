@@ -2,7 +2,8 @@
 -- Assumes nothing.
 use native.Mathlib.Omega.{arith}
 use Rattle.paper.specs.Laws.Says.{says-as}
-use Rattle.distances.specs.Ways.{Map, map}
+use Rattle.distances.specs.Ways.{Map, map, cell}
+use Rattle.trace.specs.Trail.{OnAxis}
 use Rattle.trace.specs.Leading.{on-x, on-y, east-is, north-is, west-is, south-is, dir-rest}
 use Rattle.trace.proofs.leads.Statement.{statement}
 use Rattle.trace.proofs.leads.Tie as tie
@@ -16,17 +17,23 @@ mul-here c = omega (arith, c .pre .0 .ny-few, c .pre .2)
 add-here : tie.Need-add-here
 add-here c = omega (arith, c .pre .0 .nx-few, c .pre .0 .ny-few, c .pre .1, c .pre .2)
 
+-- what `along` requires is met on both axes
+both : (s : tie.Start)
+    → (let g = s .args in OnAxis (g .d .now) (g .xs .now) (g .nx) (g .q .i) (cell (g .q .i) (g .q .j)) 1
+    × OnAxis (g .d .now) (g .ys .now) (g .ny) (g .q .j) (cell (g .q .i) (g .q .j)) 96)
+both s = (on-x (here s) _ (s .pre .0) (s .args .q) (s .pre .1) (s .pre .2), on-y (here s) _ (s .pre .0) (s .args .q) (s .pre .1) (s .pre .2))
+
 along-requires : tie.Need-along-requires
-along-requires c κs = let s = c .before in on-x (here s) _ (s .pre .0) (s .args .q) (s .pre .1) (s .pre .2)
+along-requires c κs = let h = both (c .before) in search (h .0, h .1)
 
 along-requires-2 : tie.Need-along-requires-2
-along-requires-2 c κs = let s = c .before in on-y (here s) _ (s .pre .0) (s .args .q) (s .pre .1) (s .pre .2)
+along-requires-2 c κs = let h = both (c .before) in search (h .0, h .1)
 
 along-requires-3 : tie.Need-along-requires-3
-along-requires-3 c κs = let s = c .before in on-x (here s) _ (s .pre .0) (s .args .q) (s .pre .1) (s .pre .2)
+along-requires-3 c κs = let h = both (c .before) in search (h .0, h .1)
 
 along-requires-4 : tie.Need-along-requires-4
-along-requires-4 c κs = let s = c .before in on-y (here s) _ (s .pre .0) (s .args .q) (s .pre .1) (s .pre .2)
+along-requires-4 c κs = let h = both (c .before) in search (h .0, h .1)
 
 returns : tie.Need-returns
 returns c =

@@ -1,0 +1,126 @@
+//! The fewest records that still show a difference.
+
+use std::collections::BTreeMap;
+use std::time::{Duration, Instant};
+
+use crate::board::Board;
+use crate::code::Code;
+use crate::limits::RECORD_BYTES;
+use crate::record::Record;
+
+/// Drops records of a file while `differs` says that the difference is still
+/// there; after `patience` it ends with what it has then. `first` is the number
+/// of the first record that shows the difference, if a record does.
+pub fn shrink(
+    file: &[u8],
+    first: Option<usize>,
+    patience: Duration,
+    differs: impl FnMut(&[u8]) -> bool,
+) -> Vec<u8> {
+    let kept = file.chunks(RECORD_BYTES).collect();
+    let mut shrinking = Shrinking { kept, differs, end: Instant::now() + patience };
+    if let Some(first) = first {
+        shrinking.drop_at_once(first);
+    }
+    let mut size = shrinking.kept.len();
+    while size > 1 {
+        size = size.div_ceil(2);
+        shrinking.drop_chunks(size);
+    }
+    // Each record that goes may make another one needless.
+    while shrinking.drop_chunks(1) {}
+    shrinking.kept.concat()
+}
+
+struct Shrinking<'a, F> {
+    kept: Vec<&'a [u8]>,
+    differs: F,
+    end: Instant,
+}
+
+impl<'a, F: FnMut(&[u8]) -> bool> Shrinking<'a, F> {
+    /// Keeps only these records, if they show the difference in time.
+    fn keep_only(&mut self, pieces: Vec<&'a [u8]>) -> bool {
+        let shown = Instant::now() < self.end && (self.differs)(&pieces.concat());
+        if shown {
+            self.kept = pieces;
+        }
+        shown
+    }
+
+    /// Drops what comes after the record, and of what comes before it all that
+    /// should not matter: best, all but what gave the items that stand; else
+    /// all that changed nothing.
+    fn drop_at_once(&mut self, first: usize) {
+        let first = first.min(self.kept.len());
+        if first == 0 || !self.keep_only(self.kept[..first].to_vec()) {
+            return;
+        }
+        let history = History::of(&self.kept[..first - 1]);
+        for mut wanted in [history.standing(), history.changes] {
+            wanted.push(first - 1);
+            let pieces = wanted.into_iter().map(|index| self.kept[index]).collect();
+            if self.keep_only(pieces) {
+                return;
+            }
+        }
+    }
+
+    /// Tries to drop each chunk of that many records, the last ones first, since
+    /// later records rest on earlier ones. Says if any went.
+    fn drop_chunks(&mut self, size: usize) -> bool {
+        let before = self.kept.len();
+        let mut end = before;
+        while end > 0 && Instant::now() < self.end {
+            let from = end.saturating_sub(size);
+            self.keep_only([&self.kept[..from], &self.kept[end..]].concat());
+            end = from;
+        }
+        self.kept.len() < before
+    }
+}
+
+/// What led to a board, as the indices of records.
+struct History {
+    board: Board,
+    /// The latest bounds and every change since.
+    changes: Vec<usize>,
+    /// The latest record that added each id.
+    added: BTreeMap<u16, usize>,
+}
+
+impl History {
+    fn of(pieces: &[&[u8]]) -> History {
+        let mut history =
+            History { board: Board::default(), changes: Vec::new(), added: BTreeMap::new() };
+        for (index, piece) in pieces.iter().enumerate() {
+            history.note(index, piece);
+        }
+        history
+    }
+
+    fn note(&mut self, index: usize, piece: &[u8]) {
+        if self.board.take(piece).code != Code::Accepted {
+            return;
+        }
+        match Record::read(piece) {
+            Some(Record::Bounds { .. }) => self.changes.clear(),
+            Some(Record::Keepout { id, .. } | Record::Lay { id, .. }) => {
+                self.added.insert(id, index);
+            }
+            Some(Record::TakeOut { .. } | Record::Undo) => {}
+            Some(Record::Ask { .. }) | None => return,
+        }
+        self.changes.push(index);
+    }
+
+    /// The latest bounds and what added the items that stand. An item that an
+    /// undo brought back may be missed.
+    fn standing(&self) -> Vec<usize> {
+        let mut wanted: Vec<usize> =
+            self.board.items().filter_map(|(id, _)| self.added.get(&id).copied()).collect();
+        wanted.extend(self.changes.first());
+        wanted.sort_unstable();
+        wanted
+    }
+}

@@ -1,0 +1,44 @@
+//! The fixed cases: what they reach, and that the stored files are these.
+
+use std::fs;
+
+use bench::cases::{records, sheet};
+use bench::limits::{MAX_RECORDS, RECORD_BYTES};
+use bench::peer::bench_folder;
+
+#[test]
+fn they_reach_what_a_file_can_reach() {
+    let (sheet, tally) = sheet();
+    assert!((20_000..=MAX_RECORDS).contains(&tally.records()), "{tally}");
+    for (code, count) in tally.codes.iter().enumerate() {
+        assert!(*count >= 5, "code {code} came {count} times\n{tally}");
+    }
+    for (runs, count) in tally.runs.iter().enumerate().skip(1) {
+        assert!(*count >= 1, "{runs} runs came {count} times\n{tally}");
+    }
+    assert!(tally.widest_asks >= 3_000, "{tally}");
+    assert!(3 * tally.wires >= tally.records(), "{tally}");
+    assert!(4 * tally.detours >= tally.wires, "{tally}");
+    assert!(sheet.ends_with(b"\nend\n"));
+}
+
+#[test]
+fn they_begin_before_bounds_and_end_short() {
+    let (sheet, _) = sheet();
+    assert!(sheet.starts_with(b"1 2\n"));
+    assert_ne!(records().len() % RECORD_BYTES, 0);
+}
+
+/// Once the crate that runs the cases is there, its files are these.
+#[test]
+fn the_stored_files_are_these() {
+    let folder = bench_folder().with_file_name("crates").join("cases");
+    if !folder.is_dir() {
+        return;
+    }
+    for (name, made) in [("stdin", records()), ("stdout", sheet().0)] {
+        let path = folder.join(name);
+        let stored = fs::read(&path).unwrap_or_else(|error| panic!("{}: {error}", path.display()));
+        assert!(stored == made, "{} is not what 'bench cases {name}' writes", path.display());
+    }
+}

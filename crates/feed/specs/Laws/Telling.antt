@@ -1,0 +1,233 @@
+-- The replies to a lay and an ask: refused before, at or after the pins, or the wire told.
+-- Assumes nothing.
+use Prim.Native.Nat.{ℕ, suc, _+_, _-_, _≤_, _<_}
+use native.Mathlib.Omega.{arith}
+use mathlib.Core.Path.{_≡_, refl, sym, ap, subst, subst₂, _∙_}
+use mathlib.Core.Logic.{inl, inr}
+use mathlib.Core.List.{List, [], _∷_, _++_, map}
+use lib.ListN.{length, take, replicate, length-map, length-append, length-replicate}
+use Rattle.paper.specs.declared.Id.{Id}
+use Rattle.paper.specs.declared.Pins.{Pins}
+use Rattle.paper.specs.declared.Item.{Item}
+use Rattle.paper.specs.declared.Board.{Board}
+use Rattle.paper.specs.declared.Reply.{Reply}
+use Rattle.paper.specs.declared.Record.{Record}
+use Rattle.paper.specs.declared.Record.the-variants.{Lay, Ask}
+use Rattle.paper.specs.Limits.{most-blocks, most-runs, most-corners, least-slice}
+use Rattle.paper.specs.Grid.{Node, Dir}
+use Rattle.paper.specs.Wire.{Answered, runs}
+use Rattle.paper.specs.Layout.{wire, areas, blockCount, gridOf, Used, Layout}
+use Rattle.paper.specs.Padding.{filled, itemOf, boardOf, WellFormed}
+use Rattle.paper.specs.Answer.{Check, _if_, Gives, source, target, BeforeBounds, TheWire, way, TooManyRuns, TooManyBlocks, checks, pinChecks, addTo, told, Does, written, Tells, Replies}
+use Rattle.paper.specs.Laws.Back.{nodes, thingOf, layoutOf, well-formed, ReadsBack, wire-back}
+use Rattle.paper.specs.Laws.Feeds.{gives-first, gives-then, refusing}
+use Rattle.paper.specs.Laws.Least.{one-answer}
+use Rattle.paper.specs.Laws.Next.{Coded}
+use Rattle.paper.specs.Laws.Standing.{well-standing}
+use Rattle.items.specs.Items.{Whole}
+use Rattle.feed.specs.declared.Wired.{Wired}
+use Rattle.feed.specs.Feeding.{lentChecks, Spelled, Wires, wiredReply, wireItem, Laying, Lays}
+use Rattle.feed.specs.Laws.Replying.{refused, accepted, laid-now, items-few-now}
+use Rattle.feed.specs.Laws.Wiring.{two-corners, runs-corners}
+use Rattle.feed.specs.Laws.Slices.{nodes-are}
+
+-- ---- what code 0 says
+
+pub lent-ok : (l : Layout) (n : ℕ) → Gives (lentChecks l n) 0 → (¬ (BeforeBounds l)) × (least-slice ≤ n)
+unfolding Gives
+lent-ok l n (inl g) = absurd (omega (arith, g .1))
+lent-ok l n (inr (b, inl g)) = absurd (omega (arith, g .1))
+lent-ok l n (inr (b, inr g)) = let h : ¬ (n < least-slice) = g .0 in (b, omega arith)
+
+pub pins-ok : (l : Layout) (p : Pins) → Gives (pinChecks l p) 0 → (¬ (source p ≡ target p)) × (¬ (TheWire l p (TooManyRuns p)))
+unfolding Gives
+pins-ok l p (inl g) = absurd (omega (arith, g .1))
+pins-ok l p (inr (a, inl g)) = absurd (omega (arith, g .1))
+pins-ok l p (inr (a, inr (b, inl g))) = absurd (omega (arith, g .1))
+pins-ok l p (inr (a, inr (b, inr (c, inl g)))) = absurd (omega (arith, g .1))
+pins-ok l p (inr (a, inr (b, inr (c, inr (d, inl g))))) = absurd (omega (arith, g .1))
+pins-ok l p (inr (a, inr (b, inr (c, inr (d, inr g))))) = (b, g .0)
+
+lent-coded : (l : Layout) (n : ℕ) → Coded (lentChecks l n)
+unfolding Coded
+lent-coded l n = omega arith
+
+pins-coded : (l : Layout) (p : Pins) → Coded (pinChecks l p)
+unfolding Coded
+pins-coded l p = omega arith
+
+-- ---- the wire that is told
+
+module _ (l : Layout) (p : Pins) (w : Wired) (h : Wires l p w) (z : w .code ≡ 0) where
+  abbrev v : List Dir
+  v = h .wire z .0
+
+  abbrev answered : Answered (gridOf (l .size) (l .items)) (source p) (target p) v
+  answered = h .wire z .1
+
+  abbrev spelled : Spelled p w v
+  spelled = h .wire z .2
+
+  gives : Gives (pinChecks l p) 0
+  gives = subst (Gives (pinChecks l p)) z (h .code)
+
+  pub corners-two : 2 ≤ w .corners
+  corners-two = omega (arith, spelled .corners-are, two-corners _ (source p) (target p) v (answered .legal) (pins-ok l p gives .0))
+
+  pub corners-few : w .corners ≤ most-corners
+  corners-few =
+      let few : ¬ (most-runs < length (runs (way p v))) = λ m. pins-ok l p gives .1 (v, answered, m) in
+      let n : length (way p v) ≡ w .corners = sym (spelled .corners-are) in
+      omega (arith, corners-two, runs-corners (way p v) (omega (arith, corners-two)))
+
+  pub corners-are : take (w .corners) (nodes (w .xs) (w .ys)) ≡ way p v
+  corners-are = nodes-are (way p v) (w .xs) (w .ys) (most-corners - length (map (λ q. q .x) (way p v))) (most-corners - length (map (λ q. q .y) (way p v))) (w .corners) (spelled .xs-are) (spelled .ys-are) (spelled .corners-are)
+
+  long : (f : Node → ℕ) → length (filled 0 most-corners (map f (way p v))) ≡ most-corners
+  long f =
+      omega (
+        arith,
+        corners-few,
+        spelled .corners-are,
+        length-map (way p v) f,
+        length-append (map f (way p v)) (replicate (most-corners - length (map f (way p v))) 0),
+        length-replicate {A = ℕ} (most-corners - length (map f (way p v))) 0,
+      )
+
+  pub arrays-long : (length (w .xs) ≡ most-corners) × (length (w .ys) ≡ most-corners)
+  arrays-long = (ap length (spelled .xs-are) ∙ long (λ q. q .x), ap length (spelled .ys-are) ∙ long (λ q. q .y))
+
+  -- what one wire has, the wire has
+  one : (P : List Dir → Type 0) → TheWire l p P → P v
+  one P t = subst P (one-answer (gridOf (l .size) (l .items)) (source p) (target p) (t .0) v (t .1) answered) (t .2)
+
+  -- ---- as an item
+
+  item-is : (i : ℕ) → wireItem i w ≡ itemOf (wire i (way p v))
+  unfolding itemOf
+  item-is i =
+      let n : w .corners - 1 ≡ length (way p v) - 1 = ap (λ k. k - 1) (spelled .corners-are) in
+      let x = spelled .xs-are in
+      let y = spelled .ys-are in
+      λ j. record { id = i; runs = n j; xs = x j; ys = y j }
+
+  reads : (i : ℕ) (ps : List Node) → 2 ≤ length ps → ReadsBack (wire i ps)
+  reads i [] h = absurd (omega arith)
+  reads i (q ∷ []) h = absurd (omega arith)
+  reads i (q ∷ r ∷ ps) h = wire-back i q r ps
+
+  reads-way : (i : ℕ) → ReadsBack (wire i (way p v))
+  reads-way i = reads i (way p v) (omega (arith, corners-two, spelled .corners-are))
+
+  pub thing-is : (i : ℕ) → thingOf (wireItem i w) ≡ wire i (way p v)
+  thing-is i = ap thingOf (item-is i) ∙ reads-way i
+
+  pub whole : (i : ℕ) → Whole (wireItem i w)
+  whole i = item-is i ∙ ap itemOf (sym (thing-is i))
+
+  blocks-are : (i : ℕ) → blockCount (wire i (way p v) ∷ l .items) ≡ w .blocks + (w .corners - 1)
+  unfolding blockCount areas
+  blocks-are i = omega (arith, h .blocks z, runs-corners (way p v) (omega (arith, corners-two, spelled .corners-are)), spelled .corners-are)
+
+-- ---- replies
+
+module _ (b : Board) (wf : WellFormed b) (p : Pins) (s : List ℕ) where
+  abbrev l : Layout
+  l = layoutOf b
+
+  -- ---- an ask
+
+  pub ask-lent : (k : ℕ) → ¬ (k ≡ 0) → Gives (lentChecks (layoutOf b) (length s)) k → Replies (layoutOf b) (Ask p) s s (refusing k b)
+  ask-lent k n g = refused b wf (Ask p) s k (omega arith) (unfold checks in gives-first (lentChecks (layoutOf b) (length s)) (pinChecks (layoutOf b) p) k n g)
+
+  ask-gives : (k : ℕ) → Gives (lentChecks (layoutOf b) (length s)) 0 → Gives (pinChecks (layoutOf b) p) k → Gives (checks (layoutOf b) (Ask p) (length s)) k
+  unfolding checks
+  ask-gives k g h = gives-then (lentChecks (layoutOf b) (length s)) (pinChecks (layoutOf b) p) k (lent-coded (layoutOf b) (length s)) g h
+
+  pub ask-refused : (w : Wired) → Gives (lentChecks (layoutOf b) (length s)) 0 → Wires (layoutOf b) p w → ¬ (w .code ≡ 0)
+      → Replies (layoutOf b) (Ask p) s s (refusing (w .code) b)
+  ask-refused w g h n = refused b wf (Ask p) s (w .code) (omega arith) (ask-gives (w .code) g (h .code))
+
+  tells : (w : Wired) (h : Wires (layoutOf b) p w) (z : w .code ≡ 0) (s′ : List ℕ) (m : Layout) (c : Board) → c ≡ boardOf m
+      → s′ ≡ written (take (w .corners) (nodes (w .xs) (w .ys))) s
+      → let o = told p (h .wire z .0) m in Tells (o .long) (o .away) (o .turned) (boardOf m) s s′ (wiredReply c w)
+  tells w h z s′ m c e f = record {
+    length-is = h .wire z .2 .length-is;
+    detour-is = h .wire z .2 .detour-is;
+    corners-are = h .wire z .2 .corners-are;
+    board-is = e;
+    slice-is = f ∙ ap (λ ps. written ps s) (corners-are (layoutOf b) p w h z);
+  }
+
+  pub ask-told : (w : Wired) (s′ : List ℕ) (rec : Record) (r : Reply) → rec ≡ Ask p → r ≡ wiredReply b w
+      → Gives (lentChecks (layoutOf b) (length s)) 0 → Wires (layoutOf b) p w → w .code ≡ 0
+      → s′ ≡ written (take (w .corners) (nodes (w .xs) (w .ys))) s → Replies (layoutOf b) rec s s′ r
+  unfolding Does
+  ask-told w s′ rec r e e′ g h z f =
+      subst₂ (λ rec r. Replies (layoutOf b) rec s s′ r) (sym e) (sym e′) (accepted b wf (Ask p) s s′ (told p (h .wire z .0) (layoutOf b)) (wiredReply b w) refl (ask-gives 0 g (subst (Gives (pinChecks (layoutOf b) p)) z (h .code)))
+      (h .wire z .0, h .wire z .1, refl) (tells w h z s′ (layoutOf b) b (well-formed b wf .same) f))
+
+  -- ---- a lay
+
+  module _ (i : Id) where
+    room : Check
+    room = 14 if TheWire (layoutOf b) p (λ v. TooManyBlocks (layoutOf b) (wire (i .number) (way p v)))
+
+    -- the checks after those of the slice
+    rest : List Check
+    rest = (4 if Used (layoutOf b .items) (i .number)) ∷ pinChecks (layoutOf b) p ++ room ∷ []
+
+    pub lay-lent : (k : ℕ) → ¬ (k ≡ 0) → Gives (lentChecks (layoutOf b) (length s)) k → Replies (layoutOf b) (Lay i p) s s (refusing k b)
+    unfolding checks room rest
+    lay-lent k n g =
+        refused b wf (Lay i p) s k (omega arith)
+        (gives-first (lentChecks (layoutOf b) (length s)) rest k n g)
+
+    pub lay-used : Gives (lentChecks (layoutOf b) (length s)) 0 → Used (layoutOf b .items) (i .number) → Replies (layoutOf b) (Lay i p) s s (refusing 4 b)
+    unfolding checks Gives room rest
+    lay-used g u =
+        refused b wf (Lay i p) s 4 (omega arith)
+        (gives-then (lentChecks (layoutOf b) (length s)) rest 4 (lent-coded (layoutOf b) (length s)) g (inl (u, refl)))
+
+    lay-gives : (k : ℕ) → Gives (lentChecks (layoutOf b) (length s)) 0 → ¬ (Used (layoutOf b .items) (i .number))
+        → Gives (pinChecks (layoutOf b) p ++ room ∷ []) k → Gives (checks (layoutOf b) (Lay i p) (length s)) k
+    unfolding checks Gives room rest
+    lay-gives k g u h = gives-then (lentChecks (layoutOf b) (length s)) rest k (lent-coded (layoutOf b) (length s)) g (inr (u, h))
+
+    pub lay-refused : (w : Wired) → Gives (lentChecks (layoutOf b) (length s)) 0 → ¬ (Used (layoutOf b .items) (i .number))
+        → Wires (layoutOf b) p w → ¬ (w .code ≡ 0) → Replies (layoutOf b) (Lay i p) s s (refusing (w .code) b)
+    lay-refused w g u h n =
+        refused b wf (Lay i p) s (w .code) (omega arith) (lay-gives (w .code) g u (gives-first (pinChecks (layoutOf b) p) (room ∷ []) (w .code) n (h .code)))
+
+    pub lay-asks : (w : Wired) → Gives (lentChecks (layoutOf b) (length s)) 0 → Wires (layoutOf b) p w → w .code ≡ 0 → Laying b i w s
+    lay-asks w g h z = record {
+      stands = well-standing b wf;
+      lent = lent-ok (layoutOf b) (length s) g .1;
+      blocks = h .blocks z;
+      items-few = items-few-now b wf (lent-ok (layoutOf b) (length s) g .0);
+      blocks-few = laid-now b wf (lent-ok (layoutOf b) (length s) g .0) .fits .blocks-few;
+      two = corners-two (layoutOf b) p w h z;
+      few = corners-few (layoutOf b) p w h z;
+      whole = whole (layoutOf b) p w h z (i .number);
+    }
+
+    laid : (w : Wired) (s′ : List ℕ) (r : Reply) → Gives (lentChecks (layoutOf b) (length s)) 0 → ¬ (Used (layoutOf b .items) (i .number))
+        → Wires (layoutOf b) p w → w .code ≡ 0 → Lays b i w s s′ r → Replies (layoutOf b) (Lay i p) s s′ r
+    unfolding Lays Gives Does room
+    laid w s′ r g u h z (inl (many, e, f)) =
+        subst₂ (λ s′ r. Replies (layoutOf b) (Lay i p) s s′ r) (sym f) (sym e)
+        (refused b wf (Lay i p) s 14 (omega arith) (lay-gives 14 g u (gives-then (pinChecks (layoutOf b) p) (room ∷ []) 14 (pins-coded (layoutOf b) p)
+        (subst (Gives (pinChecks (layoutOf b) p)) z (h .code))
+        (inl ((h .wire z .0, h .wire z .1, omega (arith, many, blocks-are (layoutOf b) p w h z (i .number))), refl)))))
+    laid w s′ r g u h z (inr (few, e, f)) =
+        subst (Replies (layoutOf b) (Lay i p) s s′) (sym e)
+        (accepted b wf (Lay i p) s s′ (told p (h .wire z .0) (addTo (layoutOf b) (wire (i .number) (way p (h .wire z .0))))) _ refl
+        (lay-gives 0 g u (gives-then (pinChecks (layoutOf b) p) (room ∷ []) 0 (pins-coded (layoutOf b) p) (subst (Gives (pinChecks (layoutOf b) p)) z (h .code))
+        (inr (λ t. omega (arith, few, blocks-are (layoutOf b) p w h z (i .number), one (layoutOf b) p w h z _ t), refl))))
+        (h .wire z .0, h .wire z .1, refl)
+        (tells w h z s′ (addTo (layoutOf b) (wire (i .number) (way p (h .wire z .0)))) _
+        (ap (λ t. boardOf (addTo (layoutOf b) t)) (thing-is (layoutOf b) p w h z (i .number))) f))
+
+    pub lay-done : (w : Wired) (s′ : List ℕ) (rec : Record) (r : Reply) → rec ≡ Lay i p → Gives (lentChecks (layoutOf b) (length s)) 0 → ¬ (Used (layoutOf b .items) (i .number))
+        → Wires (layoutOf b) p w → w .code ≡ 0 → Lays b i w s s′ r → Replies (layoutOf b) rec s s′ r
+    lay-done w s′ rec r q g u h z d = subst (λ rec. Replies (layoutOf b) rec s s′ r) (sym q) (laid w s′ r g u h z d)

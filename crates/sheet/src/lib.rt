@@ -1,0 +1,196 @@
+// The sheet: a line for each record of a file, written into a lent buffer.
+use feed::feed_sound;
+use items::begin;
+use paper::Board;
+use paper::LEAST_SLICE;
+use paper::Size;
+ghost use mathlib.Core.Path.{_≡_};
+ghost use mathlib.Core.List.{[], _∷_};
+ghost use Prim.Native.Nat.{_+_, _-_, _*_, _≤_, _<_, min};
+ghost use lib.ListN.{length, take};
+ghost use Rattle.sheet.specs.Text.{Part.number, Part.byte, Writes};
+ghost use Rattle.sheet.specs.Sheet.{cornersIn, wireIn, lineIn, lastLine, line-room, StepsIn};
+ghost use Rattle.paper.specs.Layout.{fresh};
+ghost use Rattle.paper.specs.Padding.{boardOf, WellFormed};
+
+// The room that a line is lent. A line has 332 bytes at most: a number of 5 digits, a code of 3, a length and a detour of 10, 25
+// corners of 11, a space before each but the first, and its end. The rest is for `put_number`, which asks for 10 places.
+pub const LINE_ROOM: usize = 336;
+
+// ---- numbers and bytes
+
+fn put_byte(buffer: &mut [u8], at: usize, b: u8) -> usize
+    requires { ⌜ at < length (now buffer) ⌝ }
+    ensures { λ r. ⌜ Writes (byte b ∷ []) (now (buffer .entry)) at (now (buffer .exit)) r ⌝ }
+{
+    buffer[at] = b;
+    at + 1
+}
+
+fn digit(n: u32) -> u8
+    requires { ⌜ n < 10 ⌝ }
+    ensures { λ r. ⌜ r ≡ 48 + n ⌝ }
+{
+    48 + n as u8
+}
+
+// The decimal digits of n, from `at` on; the place after them.
+fn put_number(buffer: &mut [u8], at: usize, n: u32) -> usize
+    requires { ⌜ at + 10 ≤ length (now buffer) ⌝ }
+    ensures { λ r. ⌜ Writes (number n ∷ []) (now (buffer .entry)) at (now (buffer .exit)) r ⌝ }
+{
+    if n < 10 {
+        return put_byte(buffer, at, digit(n));
+    }
+    let next = put_number(buffer, at, n / 10);
+    put_byte(buffer, next, digit(n % 10))
+}
+
+// ---- a line
+
+// A space, and a corner as x:y.
+fn put_corner(buffer: &mut [u8], at: usize, x: u16, y: u16) -> usize
+    requires { ⌜ at + 17 ≤ length (now buffer) ⌝ }
+    ensures { λ r. ⌜ Writes (cornersIn (x ∷ y ∷ [])) (now (buffer .entry)) at (now (buffer .exit)) r × (r ≤ at + 12) ⌝ }
+{
+    let spaced = put_byte(buffer, at, b' ');
+    let across = put_number(buffer, spaced, x as u32);
+    let parted = put_byte(buffer, across, b':');
+    put_number(buffer, parted, y as u32)
+}
+
+// The first n corners that stand in the answer.
+fn put_corners(buffer: &mut [u8], at: usize, n: usize, answer: &[u16]) -> usize
+    requires { ⌜ (n ≤ 25) × (n + n ≤ length (now answer)) × (at + 12 * n + 5 ≤ length (now buffer)) ⌝ }
+    ensures { λ r. ⌜ Writes (cornersIn (take (n + n) (now (answer .entry)))) (now (buffer .entry)) at (now (buffer .exit)) r × (r ≤ at + 12 * n) ⌝ }
+{
+    let mut next = at;
+    let mut k: usize = 0;
+    while k < n {
+        next = put_corner(buffer, next, answer[k + k], answer[k + k + 1]);
+        k += 1;
+    }
+    next
+}
+
+// Length, detour and corners; nothing where there are no corners.
+fn put_wire(
+    buffer: &mut [u8],
+    at: usize,
+    long: u32,
+    away: u32,
+    corners: usize,
+    answer: &[u16],
+) -> usize
+    requires { ⌜ (corners ≤ 25) × (corners + corners ≤ length (now answer)) × (at + 327 ≤ length (now buffer)) ⌝ }
+    ensures { λ r. ⌜ Writes (wireIn long away (take (corners + corners) (now (answer .entry)))) (now (buffer .entry)) at (now (buffer .exit)) r × (r ≤ at + 322) ⌝ }
+{
+    if corners == 0 {
+        return at;
+    }
+    let first = put_byte(buffer, at, b' ');
+    let told = put_number(buffer, first, long);
+    let second = put_byte(buffer, told, b' ');
+    let next = put_number(buffer, second, away);
+    put_corners(buffer, next, corners, answer)
+}
+
+// The line of the record with the number n, from the buffer's start: how many bytes it has.
+fn put_line(
+    buffer: &mut [u8],
+    n: u32,
+    code: u8,
+    long: u32,
+    away: u32,
+    corners: usize,
+    answer: &[u16],
+) -> usize
+    requires { ⌜ (n ≤ 65535) × (corners ≤ 25) × (corners + corners ≤ length (now answer)) × (line-room ≤ length (now buffer)) ⌝ }
+    ensures { λ r. ⌜ Writes (lineIn n code long away corners (now (answer .entry))) (now (buffer .entry)) 0 (now (buffer .exit)) r ⌝ }
+{
+    let first = put_number(buffer, 0, n);
+    let spaced = put_byte(buffer, first, b' ');
+    let coded = put_number(buffer, spaced, code as u32);
+    let next = put_wire(buffer, coded, long, away, corners, answer);
+    put_byte(buffer, next, b'\n')
+}
+
+// ---- the last line
+
+// Three letters and the line's end.
+fn put_word(buffer: &mut [u8], a: u8, b: u8, c: u8) -> usize
+    requires { ⌜ 4 ≤ length (now buffer) ⌝ }
+    ensures { λ r. ⌜ Writes (byte a ∷ byte b ∷ byte c ∷ byte 10 ∷ []) (now (buffer .entry)) 0 (now (buffer .exit)) r ⌝ }
+{
+    let one = put_byte(buffer, 0, a);
+    let two = put_byte(buffer, one, b);
+    let three = put_byte(buffer, two, c);
+    put_byte(buffer, three, b'\n')
+}
+
+// The sheet's last line, from the buffer's start: how many bytes it has.
+pub fn put_last(buffer: &mut [u8], left: bool) -> usize
+    requires { ⌜ 4 ≤ length (now buffer) ⌝ }
+    ensures { λ r. ⌜ Writes (lastLine left) (now (buffer .entry)) 0 (now (buffer .exit)) r ⌝ }
+{
+    if left {
+        return put_word(buffer, b'c', b'u', b't');
+    }
+    put_word(buffer, b'e', b'n', b'd')
+}
+
+// ---- one step
+
+// The board before any bounds, from which the steps go.
+pub fn start() -> Board
+    ensures { λ r. ⌜ (r ≡ boardOf fresh) × WellFormed r ⌝ }
+{
+    begin(Size {
+        w: 0,
+        h: 0,
+        clearance: 0,
+    })
+}
+
+// What a record leaves: the place after it, how many bytes its line has, and the board.
+pub struct Printed {
+    pub next: usize,
+    pub written: usize,
+    pub board: Board,
+}
+
+// The place after the record that begins at `at`: 12 bytes on, or the file's end.
+fn after_record(size: usize, at: usize) -> usize
+    requires { ⌜ at < size ⌝ }
+    ensures { λ r. ⌜ r ≡ at + min 12 (size - at) ⌝ }
+{
+    if size - at < 12 {
+        return size;
+    }
+    at + 12
+}
+
+// The record that begins at `at` is fed to the board, with 50 numbers lent, and its line written from the buffer's start.
+pub fn step(file: &[u8], at: usize, n: u32, board: Board, line: &mut [u8]) -> Printed
+    requires { ⌜ (at < length (now file)) × (n ≤ 65535) × (line-room ≤ length (now line)) × WellFormed board ⌝ }
+    ensures { λ r. ⌜ StepsIn (now (file .entry)) at n board (now (line .entry)) (now (line .exit)) r ⌝ }
+{
+    let next = after_record(file.len(), at);
+    let mut answer = [0u16; LEAST_SLICE];
+    let reply = feed_sound(board, &file[at..next], &mut answer);
+    let written = put_line(
+        line,
+        n,
+        reply.code,
+        reply.length,
+        reply.detour,
+        reply.corners,
+        &answer,
+    );
+    let left = reply.board;
+    Printed {
+        next: next,
+        written: written,
+        board: left,
+    }
+}
