@@ -12,7 +12,7 @@ ghost use Rattle.paper.specs.Padding.{WellFormed};
 ghost use Rattle.paper.specs.Laws.Back.{thingOf, layoutOf};
 ghost use Rattle.paper.specs.Laws.Says.{Says};
 ghost use Rattle.blocks.specs.Flat.{span, placeArea, Fits, looked, FirstIs, packed, Held, HeldOf, sortTo};
-ghost use Rattle.blocks.specs.Growing.{withBlock, withEnd, stretchAt, stretched, Room, Grows, Adds};
+ghost use Rattle.blocks.specs.Growing.{withEnd, stretchAt, stretched, Room, Grows, Adds};
 ghost use Rattle.blocks.specs.Meeting.{Placed, blockNumber, keptFrom};
 
 // The blocks of at most 46 items, in the items' order. Those of item i stand from first[i] up to first[i + 1].
@@ -115,20 +115,6 @@ fn none() -> Blocks
     }
 }
 
-// A block more, at place `at` of the arrays.
-fn put(b: Blocks, at: usize, p: Place, c: u16) -> Blocks
-    requires { ⌜ at < most-blocks ⌝ }
-    ensures { λ r. ⌜ r ≡ withBlock b at p c ⌝ }
-{
-    let mut out = b;
-    out.x0[at] = p.x0;
-    out.y0[at] = p.y0;
-    out.x1[at] = p.x1;
-    out.y1[at] = p.y1;
-    out.c[at] = c;
-    out
-}
-
 // An item more, whose blocks are there and end before `end`.
 fn close(b: Blocks, end: usize, wire: bool) -> Blocks
     requires { ⌜ b .items < most-blocks ⌝ }
@@ -182,7 +168,11 @@ fn grow(b: Blocks, item: Item, n: usize, c: u16, wire: bool) -> Blocks
     let mut k: usize = 0;
     while k < n {
         let p = stretch(item, k);
-        out = put(out, at + k, p, c);
+        out.x0[at + k] = p.x0;
+        out.y0[at + k] = p.y0;
+        out.x1[at + k] = p.x1;
+        out.y1[at + k] = p.y1;
+        out.c[at + k] = c;
         k += 1;
     }
     close(out, at + n, wire)

@@ -1,18 +1,20 @@
 -- The lines of the map: a change of a line is a crossing lowered by a way, and a calm table is near everywhere.
 -- Assumes nothing.
-use Prim.Native.Nat.{ℕ, _+_, _-_, _*_, _≤_, _<_}
+use Prim.Native.Nat.{ℕ, _+_, _-_, _*_, _≤_, _<_, min}
 use native.Mathlib.Omega.{arith}
-use mathlib.Core.Path.{_≡_}
+use mathlib.Core.Path.{_≡_, sym, subst, _∙_}
 use mathlib.Core.Bool.{Bool, true, false}
 use mathlib.Core.List.{List}
 use lib.ListN.{getD, set}
 use Rattle.distances.specs.declared.Lines.{Lines}
-use Rattle.distances.specs.Lower.{none, Done}
+use Rattle.distances.specs.Lower.{none, Table, Done, Chain, same}
 use Rattle.distances.specs.Sweep.{Widths, LinesFit, Across, Still}
 use Rattle.distances.specs.Sweeping.{chain-map}
 use Rattle.distances.specs.Settle.{Side, side, Calm, Either, on-x, on-y, Settles}
-use Rattle.distances.specs.Ways.{cell, Map, Way, east, west, north, south, Distances}
+use Rattle.distances.specs.Ways.{cell, Map, map, Way, east, west, north, south, farOf, Distances}
 use Rattle.distances.specs.Reached.{Lowering, Good, MapFits, reached, reached-few, way-in, good-chain}
+use Rattle.distances.specs.Even.{Even}
+use Rattle.distances.specs.Cut.{CutTo, cut-falls}
 
 abbrev pub x-lines : ℕ → ℕ → Lines
 x-lines nx ny = record { slabs = nx - 1; along = 1; step = 96; count = ny }
@@ -120,29 +122,108 @@ y-fits nx ny hx hy = record {
   lines = λ i h. record { place = λ k q. omega arith };
 }
 
-module _ (m : Map) (fit : MapFits m) (a b : ℕ) (d₀ d : List ℕ) (start : Good m a b d₀) (s : Settles (x-side m) (y-side m) d₀ d) where
-  good : Good m a b d
-  good = good-chain m fit a b d₀ d start (chain-map (λ x y c. lowering m x y c) (s .chain))
+-- the lines of both axes, for these tracks
+pub record Ruled (x y : Lines) (xs ys : List ℕ) : Type 0 where
+  pub nx-some : 1 ≤ y .count
+  pub nx-few : y .count ≤ 96
+  pub ny-few : x .count ≤ 96
+  pub x-is : x ≡ x-lines (y .count) (x .count)
+  pub y-is : y ≡ y-lines (y .count) (x .count)
+  pub wide-x : Widths xs (y .count - 1)
+  pub wide-y : Widths ys (x .count - 1)
 
-  near : (i j i′ j′ w : ℕ) → Way m i j i′ j′ w → getD d (cell i′ j′) 0 < none → (getD d (cell i j) 0 < none) × (getD d (cell i j) 0 ≤ getD d (cell i′ j′) 0 + w)
+-- changes of the table, until it is even as far as s
+pub record Completes (m : Map) (s : ℕ) (d e : List ℕ) : Type 0 where
+  pub table : Table e
+  pub chain : Chain (Either (x-side m) (y-side m)) d e
+  pub even : Even m e (farOf e s)
+
+-- what is reached by changes from a good table is good
+pub good-after : (m : Map) → MapFits m → (a b : ℕ) (d e : List ℕ) → Good m a b d → Chain (Either (x-side m) (y-side m)) d e → Good m a b e
+good-after m fit a b d e g c = good-chain m fit a b d e g (chain-map (λ x y l. lowering m x y l) c)
+
+-- a calm table is even, whatever the bound
+pub calm-even : (m : Map) (d : List ℕ) (far : ℕ) → Calm (x-side m) d → Calm (y-side m) d → Even m d far
+unfolding Even
+calm-even m d far x y i j i′ j′ w way = omega (arith, calm-near m d x y i j i′ j′ w way)
+
+module _ (x y : Lines) (xs ys flat tall : List ℕ) (r : Ruled x y xs ys) where
+  abbrev ruled : Map
+  ruled = map xs (y .count) ys (x .count) flat tall
+
+  pub x-ruled : LinesFit x
+  x-ruled = subst LinesFit (sym (r .x-is)) (x-fits (y .count) (x .count) (r .nx-few) (r .ny-few))
+
+  pub y-ruled : LinesFit y
+  y-ruled = subst LinesFit (sym (r .y-is)) (y-fits (y .count) (x .count) (r .nx-few) (r .ny-few))
+
+  pub x-widths : Widths xs (x .slabs)
+  x-widths = subst (λ l. Widths xs (l .slabs)) (sym (r .x-is)) (r .wide-x)
+
+  pub y-widths : Widths ys (y .slabs)
+  y-widths = subst (λ l. Widths ys (l .slabs)) (sym (r .y-is)) (r .wide-y)
+
+  -- settled, it is even
+  pub completes-settled : (s : ℕ) (d e : List ℕ) → Settles (side flat xs x) (side tall ys y) d e → Completes ruled s d e
+  completes-settled s d e t =
+      let on = subst (λ l. Settles (x-side ruled) (side tall ys l) d e) (r .y-is) (subst (λ l. Settles (side flat xs l) (side tall ys y) d e) (r .x-is) t) in
+      record { table = on .table; chain = on .chain; even = calm-even ruled e _ (on .calm-x) (on .calm-y) }
+
+-- and found even it stays
+pub completes-even : (m : Map) (s far : ℕ) (d : List ℕ) → Table d → far ≡ farOf d s → Even m d far → Completes m s d d
+completes-even m s far d t e even = record { table = t; chain = same; even = subst (Even m d) e even }
+
+-- an even table, cut off, is the table of distances
+module _ (m : Map) (fit : MapFits m) (a b p q : ℕ) (ha : a < m .nx) (hb : b < m .ny) (hp : p < m .nx) (hq : q < m .ny) (d e : List ℕ) (good : Good m a b d)
+    (even : Even m d (farOf d (cell p q))) (cut : CutTo d e (m .nx) (m .ny) (farOf d (cell p q))) where
+  far : ℕ
+  far = farOf d (cell p q)
+
+  at : (i j : ℕ) → i < m .nx → j < m .ny → getD e (cell i j) 0 ≡ min (getD d (cell i j) 0) far
+  unfolding far
+  at i j = cut .those i j
+
+  -- the number of s stays, and with it the bound
+  bound-kept : farOf e (cell p q) ≡ far
+  unfolding far
+  bound-kept = omega (arith, cut .those p q hp hq, good .table .each (cell p q))
+
+  bound-most : far ≤ none
+  unfolding far
+  bound-most = omega arith
+
+  near : (i j i′ j′ w : ℕ) → Way m i j i′ j′ w → getD e (cell i′ j′) 0 < far → (getD e (cell i j) 0 < none) × (getD e (cell i j) 0 ≤ getD e (cell i′ j′) 0 + w)
+  unfolding Even far
   near i j i′ j′ w way h =
-      let n = calm-near m d (s .calm-x) (s .calm-y) i j i′ j′ w way in
-      let p = way-in m i j i′ j′ w way in
-      let few : getD d (cell i′ j′) 0 + 30000 ≤ 30000 * reached d = good .bound (cell i′ j′) h (omega (arith, p, fit .nx-few, fit .ny-few)) in
-      (omega (arith, n, few, reached-few d, good .table .long, fit .wide i j i′ j′ w way .1), n)
+      let k = way-in m i j i′ j′ w way in
+      let n = even i j i′ j′ w way in
+      let there = at i′ j′ (k .2) (k .3) in
+      let here = at i j (k .0) (k .1) in
+      let few : getD d (cell i′ j′) 0 + 30000 ≤ 30000 * reached d =
+      good .bound (cell i′ j′) (omega (arith, there, bound-most)) (omega (arith, k, fit .nx-few, fit .ny-few)) in
+      (omega (arith, n, here, few, reached-few d, good .table .long, fit .wide i j i′ j′ w way .1), omega (arith, n, here, there))
 
-  nearer : (i j : ℕ) → i < m .nx → j < m .ny → getD d (cell i j) 0 < none → ¬ ((i ≡ a) × (j ≡ b))
-      → (i′ : ℕ) × (j′ : ℕ) × (w : ℕ) × Way m i j i′ j′ w × (getD d (cell i′ j′) 0 + w ≡ getD d (cell i j) 0)
+  nearer : (i j : ℕ) → i < m .nx → j < m .ny → getD e (cell i j) 0 < far → ¬ ((i ≡ a) × (j ≡ b))
+      → (i′ : ℕ) × (j′ : ℕ) × (w : ℕ) × Way m i j i′ j′ w × (getD e (cell i′ j′) 0 + w ≡ getD e (cell i j) 0)
+  unfolding Even far
   nearer i j hi hj h n =
-      let o = good .held i j hi hj h n in
-      (o .0, o .1, o .2, o .3, omega (arith, o .4, near i j (o .0) (o .1) (o .2) (o .3) (omega (arith, o .4)) .1))
+      let here = at i j hi hj in
+      let o = good .held i j hi hj (omega (arith, here, bound-most)) n in
+      let k = way-in m i j (o .0) (o .1) (o .2) (o .3) in
+      let there = at (o .0) (o .1) (k .2) (k .3) in
+      (o .0, o .1, o .2, o .3, omega (arith, o .4, here, there, even i j (o .0) (o .1) (o .2) (o .3)))
 
-  pub found : Distances m a b d
+  top : (c : ℕ) → getD e c 0 ≤ none
+  top c = omega (arith, cut-falls d e (m .nx) (m .ny) (farOf d (cell p q)) cut c, good .table .each c)
+
+  pub found : Distances m a b (cell p q) e
+  unfolding far
   found = record {
-    long = good .table .long;
-    target = good .target;
-    near = near;
-    nearer = nearer;
-    top = good .table .each;
-    rest = good .rest;
+    long = cut .long ∙ good .table .long;
+    target = omega (arith, at a b ha hb, good .target);
+    near = λ i j i′ j′ w way h. near i j i′ j′ w way (omega (arith, bound-kept));
+    nearer = λ i j hi hj h. nearer i j hi hj (omega (arith, bound-kept));
+    cut = λ i j hi hj. omega (arith, at i j hi hj, bound-kept);
+    top = top;
+    rest = λ i j hi hj o. cut .others i j hi o ∙ good .rest i j hi hj o;
   }

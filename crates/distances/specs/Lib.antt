@@ -9,3 +9,5 @@ pub mod Reached
 pub mod Found
 pub mod Start
 pub mod Spread
+pub mod Even
+pub mod Cut

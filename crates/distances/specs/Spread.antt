@@ -11,7 +11,7 @@ use Rattle.distances.specs.Lower.{costOf, Table, Inside, Chain, same, mo
 use Rattle.distances.specs.Going.{next, less-table, lowers}
 use Rattle.distances.specs.Sweep.{widthOf, from, to, lowAt, Across}
 use Rattle.distances.specs.Sweeping.{chain-join, chain-map}
-use Rattle.distances.specs.Settle.{Side, Moved, Either, on-x, on-y, Settles}
+use Rattle.distances.specs.Settle.{Side, Moved, Either, on-x, on-y}
 
 pub record Came (R : List ℕ → List ℕ → Type 0) (d e marks : List ℕ) : Type 0 where
   pub table : Table e
@@ -85,7 +85,3 @@ came-ways s p q = came-then (came-as (λ x y a. record { back = false; across = 
 
 pub came-axes : (x y : Side) {d e f m n : List ℕ} → Came (Moved x) d e m → Came (Moved y) e f n → Came (Either x y) d f n
 came-axes x y p q = came-then (came-as (λ a b c. on-x c) p) (came-as (λ a b c. on-y c) q)
-
--- what is settled after some changes is settled from the first table
-pub settles-after : (x y : Side) {d e f : List ℕ} → Chain (Either x y) d e → Settles x y e f → Settles x y d f
-settles-after x y c s = record { table = s .table; chain = chain-join c (s .chain); calm-x = s .calm-x; calm-y = s .calm-y }

@@ -12,7 +12,7 @@ use lib.Seq.{ext-getD}
 use Rattle.paper.specs.Laws.Among.{eqb-cases}
 use Rattle.distances.specs.Lower.{none, Table}
 use Rattle.distances.specs.Going.{set-table}
-use Rattle.distances.specs.Ways.{cell, Map, Distances}
+use Rattle.distances.specs.Ways.{cell, Map, farOf, Distances}
 use Rattle.distances.specs.Reached.{Good, MapFits, reached, reached-none, reached-set, way-in, cell-inj, after}
 
 -- nothing reached
@@ -77,38 +77,50 @@ here i j a b =
     ⊎-elim (λ p. ⊎-elim (λ q. inl (p .0, q .0)) (λ q. inr (λ h. q .0 (h .1))) (eqb-cases j b)) (λ p. inr (λ h. p .0 (h .0))) (eqb-cases i a)
 
 -- by the number of the one table: the other's is not larger
-at-most : (m : Map) (a b : ℕ) (d e : List ℕ) → MapFits m → Distances m a b d → Distances m a b e
-    → (n i j : ℕ) → i < m .nx → j < m .ny → getD e (cell i j) 0 < n → getD e (cell i j) 0 < none → getD d (cell i j) 0 ≤ getD e (cell i j) 0
-at-most m a b d e fit p q zero i j hi hj h k = absurd (omega arith)
-at-most m a b d e fit p q (suc n) i j hi hj h k =
+at-most : (m : Map) (a b s : ℕ) (d e : List ℕ) → MapFits m → Distances m a b s d → Distances m a b s e
+    → (n i j : ℕ) → i < m .nx → j < m .ny → getD e (cell i j) 0 < n → getD e (cell i j) 0 < farOf e s → getD d (cell i j) 0 ≤ getD e (cell i j) 0
+at-most m a b s d e fit p q zero i j hi hj h k = absurd (omega arith)
+at-most m a b s d e fit p q (suc n) i j hi hj h k =
     ⊎-elim
-    (λ s. rw (s .0, s .1) (omega (arith, p .target)))
-    (λ s. let o = q .nearer i j hi hj k s in
+    (λ t. rw (t .0, t .1) (omega (arith, p .target)))
+    (λ t. let o = q .nearer i j hi hj k t in
     let w = way-in m i j (o .0) (o .1) (o .2) (o .3) in
-    let less = at-most m a b d e fit p q n (o .0) (o .1) (w .2) (w .3)
+    let less = at-most m a b s d e fit p q n (o .0) (o .1) (w .2) (w .3)
     (omega (arith, o .4, fit .wide i j (o .0) (o .1) (o .2) (o .3) .0)) (omega (arith, o .4)) in
-    omega (arith, less, o .4, p .near i j (o .0) (o .1) (o .2) (o .3) (omega (arith, less, o .4)) .1))
+    elim (decLt (getD d (cell (o .0) (o .1)) 0) (farOf d s)) [
+      | yes z ↦ omega (arith, less, o .4, p .near i j (o .0) (o .1) (o .2) (o .3) z .1)
+      | no z ↦ omega (arith, less, o .4, p .cut i j hi hj)
+    ])
     (here i j a b)
 
-module _ (m : Map) (a b : ℕ) (d e : List ℕ) (fit : MapFits m) (p : Distances m a b d) (q : Distances m a b e) where
+module _ (m : Map) (a b u v : ℕ) (hu : u < m .nx) (hv : v < m .ny) (d e : List ℕ) (fit : MapFits m) (p : Distances m a b (cell u v) d)
+    (q : Distances m a b (cell u v) e) where
+  de : (i j : ℕ) → i < m .nx → j < m .ny → getD e (cell i j) 0 < farOf e (cell u v) → getD d (cell i j) 0 ≤ getD e (cell i j) 0
+  de i j h k = at-most m a b (cell u v) d e fit p q _ i j h k (lt-suc _)
+
+  ed : (i j : ℕ) → i < m .nx → j < m .ny → getD d (cell i j) 0 < farOf d (cell u v) → getD e (cell i j) 0 ≤ getD d (cell i j) 0
+  ed i j h k = at-most m a b (cell u v) e d fit q p _ i j h k (lt-suc _)
+
+  -- two bounds that are equal, and each number below its bound is no larger in the other table
+  agree : (f g x y : ℕ) → f ≡ g → x ≤ f → y ≤ g → (y < g → x ≤ y) → (x < f → y ≤ x) → x ≡ y
+  agree f g x y s h k dx dy =
+      elim (decLt y g) [
+        | yes z ↦ omega (arith, dx z, dy (omega (arith, dx z)))
+        | no z ↦ elim (decLt x f) [ yes t ↦ absurd (omega (arith, dy t)) | no t ↦ omega arith ]
+      ]
+
+  at-s : getD d (cell u v) 0 ≡ getD e (cell u v) 0
+  at-s = agree none none _ _ refl (p .top (cell u v)) (q .top (cell u v)) (λ z. de u v hu hv (omega arith)) (λ z. ed u v hu hv (omega arith))
+
   equal-at : (i j : ℕ) → i < 96 → j < 96 → getD d (cell i j) 0 ≡ getD e (cell i j) 0
   equal-at i j hi hj =
       elim (decLt i (m .nx)) [
         | no h ↦ p .rest i j hi hj (inl (omega arith)) ∙ sym (q .rest i j hi hj (inl (omega arith)))
         | yes h ↦ elim (decLt j (m .ny)) [
           | no k ↦ p .rest i j hi hj (inr (omega arith)) ∙ sym (q .rest i j hi hj (inr (omega arith)))
-          | yes k ↦ both h k
+          | yes k ↦ agree (farOf d (cell u v)) (farOf e (cell u v)) _ _ (omega (arith, at-s)) (p .cut i j h k) (q .cut i j h k) (de i j h k) (ed i j h k)
         ]
       ]
-    where
-      both : i < m .nx → j < m .ny → getD d (cell i j) 0 ≡ getD e (cell i j) 0
-      both h k =
-          let de : getD e (cell i j) 0 < none → getD d (cell i j) 0 ≤ getD e (cell i j) 0 = λ z. at-most m a b d e fit p q _ i j h k (lt-suc _) z in
-          let ed : getD d (cell i j) 0 < none → getD e (cell i j) 0 ≤ getD d (cell i j) 0 = λ z. at-most m a b e d fit q p _ i j h k (lt-suc _) z in
-          elim (decLt (getD e (cell i j) 0) none) [
-            | yes z ↦ omega (arith, de z, ed (omega (arith, de z)))
-            | no z ↦ elim (decLt (getD d (cell i j) 0) none) [ yes y ↦ absurd (omega (arith, ed y)) | no y ↦ omega (arith, p .top (cell i j), q .top (cell i j)) ]
-          ]
 
   -- every place is that of a crossing
   equal : (c : ℕ) → c < 9216 → getD d c 0 ≡ getD e c 0

@@ -20,9 +20,10 @@ pub le-or-lt : (a b : ℕ) → (a ≤ b) ⊎ (b < a)
 le-or-lt a b = elim (decLe a b) [ yes h ↦ inl h | no h ↦ inr (omega arith) ]
 
 -- in a rising list the tracks from there on are not below v
-pub below-iff : (at : List ℕ) (count v r : ℕ) → Rising at count → Below at count v r → (i : ℕ) → i < count → (i < r) ↔ (getD at i 0 < v)
-below-iff at count v r rise b i h = (
-  λ p. b .under i p,
+pub below-iff : (at : List ℕ) (count v from r : ℕ) → Rising at count → Below at count v from r
+    → (i : ℕ) → i < count → from ≤ i → (i < r) ↔ (getD at i 0 < v)
+below-iff at count v from r rise b i h start = (
+  λ p. b .under i p start,
   λ p. ⊎-elim (λ q. absurd (omega (arith, past q))) (λ q. q) (le-or-lt r i),
 )
   where
@@ -30,21 +31,33 @@ below-iff at count v r rise b i h = (
     past q = ⊎-elim (λ e. omega (arith, b .here (omega arith), ap (λ k. getD at k 0) e)) (λ k. omega (arith, b .here (omega arith), rise .rise r i k h)) (eq-or-lt-of-le q)
 
 -- found with a number that is v in other words
-pub below-as : {at : List ℕ} {count u r : ℕ} (v : ℕ) → Below at count u r → u ≡ v → Below at count v r
-below-as {at} {count} {u} {r} v b e = subst (λ n. Below at count n r) e b
+pub below-as : {at : List ℕ} {count u from r : ℕ} (v : ℕ) → Below at count u from r → u ≡ v → Below at count v from r
+below-as {at} {count} {u} {from} {r} v b e = subst (λ n. Below at count n from r) e b
 
--- the low end is `low` less c
-pub meeting : (at : List ℕ) (count lo hi c reach low from to : ℕ) → Rising at count → low + reach ≡ lo + 1
-    → Below at count (low - c) from → Below at count (hi + c) to → Meeting at count lo hi c reach (record { from = from; to = to })
+-- looked for from where one for a number that is not larger was found
+pub below-on : {at : List ℕ} {count u v m r : ℕ} → u ≤ v → Below at count u 0 m → Below at count v m r → Below at count v 0 r
+below-on {m} h p q = record {
+  past = omega arith;
+  few = q .few;
+  under = λ i k s. ⊎-elim (q .under i k) (λ a. omega (arith, p .under i a s)) (le-or-lt m i);
+  here = q .here;
+}
+
+-- the low end is `low` less c; the high end was looked for from a place that is not past the low one
+pub meeting : (at : List ℕ) (count lo hi c reach low start from to : ℕ) → Rising at count → low + reach ≡ lo + 1
+    → Below at count (low - c) 0 from → start ≤ from → Below at count (hi + c) start to
+    → Meeting at count lo hi c reach (record { from = from; to = to })
 unfolding Meets
-meeting at count lo hi c reach low from to rise e p q = record {
+meeting at count lo hi c reach low start from to rise e p s q = record {
   starts = p .few;
   ends = q .few;
   those = λ i h.
-      let low-iff = below-iff at count (low - c) from rise p i h in
-      let high-iff = below-iff at count (hi + c) to rise q i h in (
-        λ m. (let n : ¬ (getD at i 0 < low - c) = λ z. omega (arith, low-iff .1 z) in omega arith, high-iff .0 (m .1)),
-        λ m. (let n : ¬ (i < from) = λ z. omega (arith, low-iff .0 z, m .0) in omega arith, high-iff .1 (m .1)),
+      let low-iff = below-iff at count (low - c) 0 from rise p i h (omega arith) in
+      let high-iff = below-iff at count (hi + c) start to rise q i h in (
+        λ m. (let n : ¬ (getD at i 0 < low - c) = λ z. omega (arith, low-iff .1 z) in omega arith, high-iff (omega arith) .0 (m .1)),
+        λ m.
+            let on : from ≤ i = ⊎-elim (λ z. z) (λ z. absurd (omega (arith, low-iff .0 z, m .0))) (le-or-lt from i) in
+            (on, high-iff (omega arith) .1 (m .1)),
       );
 }
 

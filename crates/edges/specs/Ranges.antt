@@ -10,9 +10,11 @@ use Rattle.edges.specs.declared.Range.{Range}
 pub record Rising (at : List ℕ) (count : ℕ) : Type 0 where
   pub rise : (i j : ℕ) → i < j → j < count → getD at i 0 < getD at j 0
 
-pub record Below (at : List ℕ) (count v r : ℕ) : Type 0 where
+-- r is the first track from `from` on that does not lie below v, or `count` where there is none
+pub record Below (at : List ℕ) (count v from r : ℕ) : Type 0 where
+  pub past : from ≤ r
   pub few : r ≤ count
-  pub under : (i : ℕ) → i < r → getD at i 0 < v
+  pub under : (i : ℕ) → i < r → from ≤ i → getD at i 0 < v
   pub here : r < count → v ≤ getD at r 0
 
 abbrev pub span : ℕ → ℕ → ℕ → Span

@@ -12,6 +12,12 @@ pub struct Range {
     pub to: usize,
 }
 
+// Both ranges that an open interval meets on one axis: the slabs, told by their low track, whose first unit it meets, and the tracks that lie in it.
+pub struct Both {
+    pub slabs: Range,
+    pub tracks: Range,
+}
+
 // The area from (x0, y0) to (x1, y1), widened by c on all four sides.
 pub struct Box {
     pub x0: u16,
@@ -27,12 +33,12 @@ fn wide(x: u16) -> u32
     x as u32
 }
 
-// How many tracks lie below v.
-fn below(at: &[u16; 96], count: usize, v: u32) -> usize
-    requires { ⌜ count ≤ 96 ⌝ }
-    ensures { λ r. ⌜ Below (now (at .entry)) count v r ⌝ }
+// The first track from `from` on that does not lie below v, or `count` where there is none.
+fn below(at: &[u16; 96], count: usize, v: u32, from: usize) -> usize
+    requires { ⌜ (count ≤ 96) × (from ≤ count) ⌝ }
+    ensures { λ r. ⌜ Below (now (at .entry)) count v from r ⌝ }
 {
-    let mut i: usize = 0;
+    let mut i = from;
     while i < count {
         if wide(at[i]) >= v {
             return i;
@@ -49,16 +55,26 @@ fn less(a: u32, b: u32) -> u32
     if a < b { 0 } else { a - b }
 }
 
-// The tracks from which a step of length `reach`, which is 0 or 1, meets the open interval from lo - c to hi + c: the tracks that lie in it,
-// or the slabs, told by their low track, whose first unit it meets.
-fn met(at: &[u16; 96], count: usize, lo: u16, hi: u16, c: u16, reach: u32) -> Range
-    requires { ⌜ (count ≤ 96) × Rising (now at) count × (reach ≤ 1) ⌝ }
-    ensures { λ r. ⌜ Meeting (now (at .entry)) count lo hi c reach r ⌝ }
+// What the open interval from lo - c to hi + c meets. The slabs begin no later than the tracks, so the other two places are looked for from the
+// slabs' begin on. Where hi + c lies before that, neither range ends after it begins, and nothing is in it.
+fn met(at: &[u16; 96], count: usize, lo: u16, hi: u16, c: u16) -> Both
+    requires { ⌜ (count ≤ 96) × Rising (now at) count ⌝ }
+    ensures { λ r. ⌜ Meeting (now (at .entry)) count lo hi c 1 (r .slabs) × Meeting (now (at .entry)) count lo hi c 0 (r .tracks) ⌝ }
 {
     let m = wide(c);
-    let from = below(at, count, less(wide(lo) + 1 - reach, m));
-    let to = below(at, count, wide(hi) + m);
-    Range { from, to }
+    let slab = below(at, count, less(wide(lo), m), 0);
+    let track = below(at, count, less(wide(lo) + 1, m), slab);
+    let end = below(at, count, wide(hi) + m, slab);
+    Both {
+        slabs: Range {
+            from: slab,
+            to: end,
+        },
+        tracks: Range {
+            from: track,
+            to: end,
+        },
+    }
 }
 
 // Marks a row of places.
@@ -99,12 +115,10 @@ fn mark_block(
     ensures { λ _. ⌜ Added (now (flat .entry)) (now (flat .exit)) nx ny (Shuts level (block b) (now (xs .entry)) (now (ys .entry))) ×
         Added (now (tall .entry)) (now (tall .exit)) nx ny (Shuts upright (block b) (now (xs .entry)) (now (ys .entry))) ⌝ }
 {
-    let slabs_x = met(xs, nx, b.x0, b.x1, b.c, 1);
-    let tracks_y = met(ys, ny, b.y0, b.y1, b.c, 0);
-    mark(flat, slabs_x, tracks_y);
-    let tracks_x = met(xs, nx, b.x0, b.x1, b.c, 0);
-    let slabs_y = met(ys, ny, b.y0, b.y1, b.c, 1);
-    mark(tall, tracks_x, slabs_y);
+    let x = met(xs, nx, b.x0, b.x1, b.c);
+    let y = met(ys, ny, b.y0, b.y1, b.c);
+    mark(flat, x.slabs, y.tracks);
+    mark(tall, x.tracks, y.slabs);
 }
 
 // The boxes, n of them: as the arrays have them.

@@ -34,6 +34,7 @@ use Rattle.items.specs.Items.{Whole}
 use Rattle.router.specs.declared.Route.{Route}
 use Rattle.router.specs.declared.Route.the-variants.{Wire, NoWire, TooManyRuns}
 use Rattle.router.specs.declared.Routed.{Routed}
+use Rattle.router.specs.Route.{codeOf, lengthOf, detourOf, cornersOf}
 use Rattle.feed.specs.declared.Wired.{Wired}
 
 -- ---- what a scan finds
@@ -81,9 +82,17 @@ noWire k = record {
 }
 
 abbrev pub wiredBy : Route → List ℕ → List ℕ → ℕ → Wired
-wiredBy (Wire n d k) xs ys b = record { code = 0; blocks = b; length = n; detour = d; corners = k; xs = xs; ys = ys }
-wiredBy NoWire xs ys b = noWire 12
-wiredBy TooManyRuns xs ys b = noWire 13
+wiredBy (Wire n d k) xs ys b = record {
+  code = codeOf (Wire n d k);
+  blocks = b;
+  length = lengthOf (Wire n d k);
+  detour = detourOf (Wire n d k);
+  corners = cornersOf (Wire n d k);
+  xs = xs;
+  ys = ys;
+}
+wiredBy NoWire xs ys b = noWire (codeOf NoWire)
+wiredBy TooManyRuns xs ys b = noWire (codeOf TooManyRuns)
 
 abbrev pub wiredOf : Routed → ℕ → Wired
 wiredOf r b = wiredBy (r .route) (r .xs) (r .ys) b

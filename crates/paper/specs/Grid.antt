@@ -61,7 +61,8 @@ pub record Span : Type 0 where
   pub hi : ℕ
   pub c : ℕ
 
--- It has a point in common with what lies between a and b: with the point itself where a = b, strictly between the ends where a < b.
+-- It has a point in common with what lies between a and b: strictly between the ends where a < b; with the point itself where a = b, which is
+-- asked only of spans that are more than one point.
 unfoldable pub Meets : Span → ℕ → ℕ → Type 0
 Meets s a b = (s .lo < b + s .c) × (a < s .hi + s .c)
 

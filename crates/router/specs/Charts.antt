@@ -3,6 +3,7 @@
 use Prim.Native.Nat.{ℕ, suc, pred, _+_, _-_, _≤_, _<_}
 use native.Mathlib.Numerals.{add-one}
 use native.Mathlib.Omega.{arith}
+use native.Mathlib.Decide.{decLt}
 use mathlib.Core.Path.{_≡_, refl, sym, ap, subst, _∙_}
 use mathlib.Core.Logic.{_↔_}
 use mathlib.Core.List.{List, _++_}
@@ -11,7 +12,8 @@ use Rattle.paper.specs.Grid.{Node, Dir, E, N, W, S, step, Axis, level, upright,
 use Rattle.paper.specs.Wire.{gap}
 use Rattle.distances.specs.Lower.{none}
 use Rattle.distances.specs.Ways as ways
-use Rattle.distances.specs.Ways.{cell, Map, Way, east, west, north, south, Distances}
+use Rattle.distances.specs.Ways.{cell, Map, Way, east, west, north, south, farOf, Distances}
+use Rattle.distances.specs.Reached.{way-in}
 use Rattle.trace.specs.Trail as trail
 use Rattle.trace.specs.Trail.{chart, distance, marks}
 use Rattle.walks.specs.Tracks.{Tracks, Rising}
@@ -154,8 +156,8 @@ module _ (w h : ℕ) (bs : List Block) (m : Map) (k : Marks w h bs m) where
 
     -- ---- so a table of distances is what a search leaves behind
 
-    module _ (a b : ℕ) (t : Distances m a b d) where
-      source-of : (q : Node) → q .x < m .nx → q .y < m .ny → D q < none → ¬ (q ≡ record { x = a; y = b })
+    module _ (a b s : ℕ) (t : Distances m a b s d) where
+      source-of : (q : Node) → q .x < m .nx → q .y < m .ny → D q < farOf d s → ¬ (q ≡ record { x = a; y = b })
           → (e : Dir) × Free (crossings T G) q e × (D (step e q) + far T e q ≤ D q)
       source-of q hx hy r ne =
           let o = t .nearer (q .x) (q .y) hx hy r (λ s. ne (λ k. record { x = s .0 k; y = s .1 k })) in
@@ -164,14 +166,37 @@ module _ (w h : ℕ) (bs : List Block) (m : Map) (k : Marks w h bs m) where
           let long : far T (s .dir) q ≡ o .2 = sym (far-same q (s .dir) (s .free)) ∙ s .long in
           (s .dir, free-iff q (s .dir) .0 (s .free), omega (arith, there, long, o .4))
 
-      pub searched : a < m .nx → b < m .ny → Searched G T D none (record { x = a; y = b })
-      searched ha hb = record {
-        on = (omega arith, omega arith);
-        some = omega arith;
-        here = t .target;
-        settled = λ e q f r.
-            let c = free-iff q e .1 f in
-            let n = t .near (q .x) (q .y) (step e q .x) (step e q .y) (trail.far m e q) (way-of q e c) r in
-            (n .0, rw (far-same q e c) at (n .1));
-        source = λ q i r ne. source-of q (omega (arith, i .0, k .nx-some)) (omega (arith, i .1, k .ny-some)) r ne;
-      }
+      near-of : (e : Dir) (q : Node) → Free (crossings T G) q e → D (step e q) < farOf d s → (D q < none) × (D q ≤ D (step e q) + far T e q)
+      near-of e q f r =
+          let c = free-iff q e .1 f in
+          let n = t .near (q .x) (q .y) (step e q .x) (step e q .y) (trail.far m e q) (way-of q e c) r in
+          (n .0, rw (far-same q e c) at (n .1))
+
+      cut-of : (e : Dir) (q : Node) → Free (crossings T G) q e → D q ≤ farOf d s
+      cut-of e q f = let k = way-in m _ _ _ _ _ (way-of q e (free-iff q e .1 f)) in t .cut (q .x) (q .y) (k .0) (k .1)
+
+      module _ (ha : a < m .nx) (hb : b < m .ny) where
+        -- what is further than s has one number, which no way makes smaller either
+        pub searched : Searched G T D (farOf d s + 1) (farOf d s) (record { x = a; y = b })
+        searched = record {
+          on = (omega arith, omega arith);
+          some = omega arith;
+          within = omega arith;
+          here = t .target;
+          settled = λ e q f r. (
+            omega (arith, cut-of e q f),
+            elim (decLt (D (step e q)) (farOf d s)) [ yes z ↦ near-of e q f z .1 | no z ↦ omega (arith, cut-of e q f) ],
+          );
+          source = λ q i r ne. source-of q (omega (arith, i .0, k .nx-some)) (omega (arith, i .1, k .ny-some)) r ne;
+        }
+
+        -- where s is not reached, nothing that has a way to what is reached is left out
+        pub searched-all : getD d s 0 ≡ none → Searched G T D none none (record { x = a; y = b })
+        searched-all z = record {
+          on = (omega arith, omega arith);
+          some = omega arith;
+          within = omega arith;
+          here = t .target;
+          settled = λ e q f r. near-of e q f (omega arith);
+          source = λ q i r ne. source-of q (omega (arith, i .0, k .nx-some)) (omega (arith, i .1, k .ny-some)) (omega arith) ne;
+        }

@@ -17,7 +17,7 @@ use Rattle.tracks.specs.declared.Tracks.{Tracks}
 use Rattle.tracks.specs.Tracks.{spans}
 use Rattle.tracks.specs.Laws.{track-further}
 use Rattle.distances.specs.Lower.{none}
-use Rattle.distances.specs.Ways.{Map, map, Distances}
+use Rattle.distances.specs.Ways.{cell, Map, map, Distances}
 use Rattle.edges.specs.Marks.{boxAt, Marked}
 use Rattle.trace.specs.declared.At.{At}
 use Rattle.trace.specs.Trail.{crossing, distance, spot}
@@ -51,7 +51,7 @@ module _ (z : Size) (x0 y0 x1 y1 c : List ℕ) (n : ℕ) (p : Pins) (x y : Track
   module _ (flat tall d : List ℕ) (s t : At)
       (mx : Marked level flat (x .at) (x .count) (y .at) (y .count) (boxAt x0 y0 x1 y1 c) n)
       (my : Marked upright tall (x .at) (x .count) (y .at) (y .count) (boxAt x0 y0 x1 y1 c) n)
-      (dist : Distances (map (x .at) (x .count) (y .at) (y .count) flat tall) (t .i) (t .j) d)
+      (dist : Distances (map (x .at) (x .count) (y .at) (y .count) flat tall) (t .i) (t .j) (cell (s .i) (s .j)) d)
       (sx : (s .i < x .count) × (getD (x .at) (s .i) 0 ≡ p .sx)) (sy : (s .j < y .count) × (getD (y .at) (s .j) 0 ≡ p .sy))
       (tx : (t .i < x .count) × (getD (x .at) (t .i) 0 ≡ p .tx)) (ty : (t .j < y .count) × (getD (y .at) (t .j) 0 ≡ p .ty)) where
     abbrev m : Map

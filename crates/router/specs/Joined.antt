@@ -23,10 +23,11 @@ use Rattle.walks.specs.Rule.{BlockTracked}
 use Rattle.walks.specs.Trace as walk
 use Rattle.walks.specs.Route.{tracks, route, some-route, no-route}
 use Rattle.router.specs.declared.Routed.{Routed}
-use Rattle.router.specs.declared.Route.the-variants.{NoWire, TooManyRuns}
+use Rattle.router.specs.declared.Route.the-variants.{Wire, NoWire, TooManyRuns}
 use Rattle.router.specs.Route.{Answers, Found, Written}
+use Rattle.router.specs.One.{answers-of}
 use Rattle.router.specs.Told.{detourFor, silence, telling, Tells}
-use Rattle.router.specs.Charts.{tracksIn, Marks, trail-of, searched}
+use Rattle.router.specs.Charts.{tracksIn, Marks, trail-of, searched, searched-all}
 
 -- a wire that is found, by its table and by its trail
 pub record Got (G : Grid) (m : Map) (d : List ℕ) (s t : At) (a b : Node) : Type 0 where
@@ -37,16 +38,14 @@ pub record Got (G : Grid) (m : Map) (d : List ℕ) (s t : At) (a b : Node) : Typ
 
 module _ (w h : ℕ) (bs : List Block) (m : Map) (k : Marks w h bs m)
     (tracked : All (BlockTracked (tracks (tracksIn (m .xs) (m .nx)) (tracksIn (m .ys) (m .ny))) (gridWith w h bs)) bs)
-    (d : List ℕ) (s t : At) (dist : Distances m (t .i) (t .j) d)
+    (d : List ℕ) (s t : At) (dist : Distances m (t .i) (t .j) (cell (s .i) (s .j)) d)
     (s-x : s .i < m .nx) (s-y : s .j < m .ny) (t-x : t .i < m .nx) (t-y : t .j < m .ny)
     (a b : Node) (start : spot m (crossing s) ≡ a) (end : spot m (crossing t) ≡ b) where
-  done : walk.Searched (gridWith w h bs) (tracks (tracksIn (m .xs) (m .nx)) (tracksIn (m .ys) (m .ny))) (distance d) none (crossing t)
-  done = searched w h bs m k d (t .i) (t .j) dist t-x t-y
-
   pub got : distance d (crossing s) < none → Got (gridWith w h bs) m d s t a b
   got r =
+      let done = searched w h bs m k d (t .i) (t .j) (cell (s .i) (s .j)) dist t-x t-y in
       let on : Crossing (tracks (tracksIn (m .xs) (m .nx)) (tracksIn (m .ys) (m .ny))) (crossing s) = (omega (arith, s-x), omega (arith, s-y)) in
-      let l = some-route (k .rise-x) (k .rise-y) bs tracked a b (crossing s) (crossing t) start end on done r in
+      let l = some-route (k .rise-x) (k .rise-y) bs tracked a b (crossing s) (crossing t) start end on done (omega arith) in
       record {
         word = l .0;
         answered = route (k .rise-x) (k .rise-y) bs tracked a b (crossing s) (crossing t) start end on done (l .0) (l .1);
@@ -56,7 +55,8 @@ module _ (w h : ℕ) (bs : List Block) (m : Map) (k : Marks w h bs m)
 
   pub nowhere : distance d (crossing s) ≡ none → (v : List Dir) → ¬ (Legal (gridWith w h bs) a b v)
   nowhere e =
-      no-route (k .rise-x) (k .rise-y) bs tracked a b (crossing s) (crossing t) start end (omega (arith, s-x), omega (arith, s-y)) done (omega arith)
+      no-route (k .rise-x) (k .rise-y) bs tracked a b (crossing s) (crossing t) start end (omega (arith, s-x), omega (arith, s-y))
+      (searched-all w h bs m k d (t .i) (t .j) (cell (s .i) (s .j)) dist t-x t-y e) (omega arith)
 
 -- ---- in the paper's words
 
@@ -77,27 +77,29 @@ told-detour G p w l =
 module _ (G : Grid) (p : Pins) where
   pub answers-none : ((v : List Dir) → ¬ (Legal G (source p) (target p) v)) → Answers G (source p) (target p) (silence NoWire)
   unfolding Found Written
-  answers-none n = record { found = n; turned = []; written = refl; xs-are = refl; ys-are = refl }
+  answers-none n = answers-of G (source p) (target p) NoWire _ _ (record { found = n; turned = []; written = refl; xs-are = refl; ys-are = refl })
 
   module _ (w : List Dir) (a : Answered G (source p) (target p) w) where
     pub answers-many : most-corners < length (corners (source p) w) → Answers G (source p) (target p) (silence TooManyRuns)
     unfolding Found Written
-    answers-many h = record { found = (w, (a, omega (arith, corner-runs (source p) w))); turned = []; written = refl; xs-are = refl; ys-are = refl }
+    answers-many h =
+        answers-of G (source p) (target p) TooManyRuns _ _
+        (record { found = (w, (a, omega (arith, corner-runs (source p) w))); turned = []; written = refl; xs-are = refl; ys-are = refl })
 
     pub answers-few : length (corners (source p) w) ≤ most-corners → Answers G (source p) (target p) (telling (length w) p (corners (source p) w))
     unfolding Found Written
-    answers-few h = record {
+    answers-few h = answers-of G (source p) (target p) (Wire _ _ _) _ _ (record {
       found = (w, (a, omega (arith, corner-runs (source p) w)), refl, told-detour G p w (a .legal), refl);
       turned = corners (source p) w;
       written = (w, a, refl);
       xs-are = refl;
       ys-are = refl;
-    }
+    })
 
 -- from what is told of the table to the answer
 pub answers : (w h : ℕ) (bs : List Block) (m : Map) (k : Marks w h bs m)
     → All (BlockTracked (tracks (tracksIn (m .xs) (m .nx)) (tracksIn (m .ys) (m .ny))) (gridWith w h bs)) bs
-    → (d : List ℕ) (s t : At) → Distances m (t .i) (t .j) d → s .i < m .nx → s .j < m .ny → t .i < m .nx → t .j < m .ny
+    → (d : List ℕ) (s t : At) → Distances m (t .i) (t .j) (cell (s .i) (s .j)) d → s .i < m .nx → s .j < m .ny → t .i < m .nx → t .j < m .ny
     → (p : Pins) → spot m (crossing s) ≡ source p → spot m (crossing t) ≡ target p
     → (r : Routed) → Tells m d s t p r → Answers (gridWith w h bs) (source p) (target p) r
 answers w h bs m k tracked d s t dist sx sy tx ty p start end r tell =

@@ -1,8 +1,8 @@
 pub mod Route
+pub mod One
 pub mod Told
 pub mod Telling
 pub mod Charts
 pub mod Joined
 pub mod Lines
 pub mod Found
-pub mod One

@@ -1,9 +1,9 @@
--- The contract of the router decides every number that it returns.
+-- The contract of the router, by cases; and it decides every number that the router returns.
 -- Assumes nothing.
-use Prim.Native.Nat.{_≤_, _<_}
+use Prim.Native.Nat.{ℕ, _≤_, _<_}
 use native.Mathlib.Omega.{arith}
-use mathlib.Core.Path.{_≡_, refl, sym, ap, _∙_}
-use mathlib.Core.List.{List, map}
+use mathlib.Core.Path.{_≡_, refl, sym, ap, subst, _∙_}
+use mathlib.Core.List.{List, [], map}
 use lib.ListN.{length}
 use Rattle.paper.specs.Limits.{most-runs, most-corners}
 use Rattle.paper.specs.Grid.{Node, Dir, Grid}
@@ -13,7 +13,7 @@ use Rattle.paper.specs.Laws.Least.{one-answer}
 use Rattle.router.specs.declared.Routed.{Routed}
 use Rattle.router.specs.declared.Route.{Route}
 use Rattle.router.specs.declared.Route.the-variants.{Wire, NoWire, TooManyRuns}
-use Rattle.router.specs.Route.{codeOf, lengthOf, detourOf, cornersOf, Few, Many, Answers, Found, Written, ByCode}
+use Rattle.router.specs.Route.{lengthOf, detourOf, cornersOf, Valued, Coded, Answers, Found, Written, Routes}
 
 module _ (G : Grid) (s t : Node) where
   -- few runs and many do not go together
@@ -43,41 +43,86 @@ module _ (G : Grid) (s t : Node) where
   same-corners NoWire ps qs f g = f ∙ sym g
   same-corners TooManyRuns ps qs f g = f ∙ sym g
 
+  -- ---- by cases, and by the number
+
+  -- the arrays of a list of corners are those of an equal one
+  arrays : (f : Node → ℕ) (xs : List ℕ) (ps qs : List Node) → ps ≡ qs → xs ≡ filled 0 most-corners (map f ps) → xs ≡ filled 0 most-corners (map f qs)
+  arrays f xs ps qs e h = h ∙ ap (λ ns. filled 0 most-corners (map f ns)) e
+
+  silence : (o : Route) (xs ys : List ℕ) (ps : List Node) → lengthOf o ≡ 0 → detourOf o ≡ 0 → cornersOf o ≡ 0 → ps ≡ []
+      → xs ≡ filled 0 most-corners (map (λ p. p .x) ps) → ys ≡ filled 0 most-corners (map (λ p. p .y) ps) → Valued o xs ys 0 0 []
+  silence o xs ys ps n d k e x y = record {
+    length-is = n;
+    detour-is = d;
+    corners-are = k;
+    xs-are = arrays (λ p. p .x) xs ps [] e x;
+    ys-are = arrays (λ p. p .y) ys ps [] e y;
+  }
+
+  pub answers-of : (o : Route) (xs ys : List ℕ) → Routes G s t o xs ys → Coded G s t o xs ys
+  unfolding Found Written
+  answers-of (Wire n d k) xs ys r =
+      let w = r .found .0 in
+      let a = r .found .1 in
+      record {
+        few = (λ e. (w, a), λ f. refl);
+        none = (λ e. absurd (omega arith), λ f. absurd (f w (a .0 .legal)));
+        many = (λ e. absurd (omega arith), λ f. absurd (apart w (f .0) (a .0) (f .1 .0) (a .1) (f .1 .1)));
+        values = λ v b.
+            let e = one-answer G s t w v (a .0) (b .0) in
+            let ps : r .turned ≡ corners s v = r .written .2 ∙ ap (corners s) (one-answer G s t (r .written .0) v (r .written .1) (b .0)) in
+            record {
+              length-is = r .found .2 ∙ ap length e;
+              detour-is = r .found .3 ∙ ap (detour t s) e;
+              corners-are = r .found .4 ∙ ap (λ u. length (corners s u)) e;
+              xs-are = arrays (λ p. p .x) xs (r .turned) (corners s v) ps (r .xs-are);
+              ys-are = arrays (λ p. p .y) ys (r .turned) (corners s v) ps (r .ys-are);
+            };
+        silent = λ z. absurd (z refl);
+      }
+  answers-of NoWire xs ys r = record {
+    few = (λ e. absurd (omega arith), λ g. absurd (r .found (g .0) (g .1 .0 .legal)));
+    none = (λ e. r .found, λ g. refl);
+    many = (λ e. absurd (omega arith), λ g. absurd (r .found (g .0) (g .1 .0 .legal)));
+    values = λ v b. absurd (r .found v (b .0 .legal));
+    silent = λ z. silence NoWire xs ys (r .turned) refl refl refl (r .written) (r .xs-are) (r .ys-are);
+  }
+  answers-of TooManyRuns xs ys r =
+      let w = r .found .0 in
+      let a = r .found .1 in
+      record {
+        few = (λ e. absurd (omega arith), λ f. absurd (apart (f .0) w (f .1 .0) (a .0) (f .1 .1) (a .1)));
+        none = (λ e. absurd (omega arith), λ f. absurd (f w (a .0 .legal)));
+        many = (λ e. (w, a), λ f. refl);
+        values = λ v b. absurd (apart v w (b .0) (a .0) (b .1) (a .1));
+        silent = λ z. silence TooManyRuns xs ys (r .turned) refl refl refl (r .written) (r .xs-are) (r .ys-are);
+      }
+
+  pub routes-of : (o : Route) (xs ys : List ℕ) → Coded G s t o xs ys → Routes G s t o xs ys
+  unfolding Found Written
+  routes-of (Wire n d k) xs ys c =
+      let f = c .few .0 refl in
+      let v = c .values (f .0) (f .1) in
+      record {
+        found = (f .0, f .1, v .length-is, v .detour-is, v .corners-are);
+        turned = corners s (f .0);
+        written = (f .0, f .1 .0, refl);
+        xs-are = v .xs-are;
+        ys-are = v .ys-are;
+      }
+  routes-of NoWire xs ys c =
+      let v = c .silent (λ e. omega arith) in
+      record { found = c .none .0 refl; turned = []; written = refl; xs-are = v .xs-are; ys-are = v .ys-are }
+  routes-of TooManyRuns xs ys c =
+      let v = c .silent (λ e. omega arith) in
+      record { found = c .many .0 refl; turned = []; written = refl; xs-are = v .xs-are; ys-are = v .ys-are }
+
   pub one-route : (r q : Routed) → Answers G s t r → Answers G s t q → r ≡ q
-  one-route r q a b =
+  one-route r q c d =
+      let a = routes-of (r .route) (r .xs) (r .ys) c in
+      let b = routes-of (q .route) (q .xs) (q .ys) d in
       let e : r .route ≡ q .route = same-route (r .route) (q .route) (a .found) (b .found) in
-      let c : a .turned ≡ b .turned = same-corners (q .route) (a .turned) (b .turned) (rw e at (a .written)) (b .written) in
-      let x : r .xs ≡ q .xs = a .xs-are ∙ ap (λ ps. filled 0 most-corners (map (λ p. p .x) ps)) c ∙ sym (b .xs-are) in
-      let y : r .ys ≡ q .ys = a .ys-are ∙ ap (λ ps. filled 0 most-corners (map (λ p. p .y) ps)) c ∙ sym (b .ys-are) in
+      let f : a .turned ≡ b .turned = same-corners (q .route) (a .turned) (b .turned) (subst (λ o. Written G s t o (a .turned)) e (a .written)) (b .written) in
+      let x : r .xs ≡ q .xs = arrays (λ p. p .x) (r .xs) (a .turned) (b .turned) f (a .xs-are) ∙ sym (b .xs-are) in
+      let y : r .ys ≡ q .ys = arrays (λ p. p .y) (r .ys) (a .turned) (b .turned) f (a .ys-are) ∙ sym (b .ys-are) in
       λ i. record { route = e i; xs = x i; ys = y i }
-
-  -- ---- the answer by its number
-
-  coded : (r : Route) → Found G s t r → ByCode G s t r
-  unfolding Found
-  coded (Wire n d k) (w, a, en, ed, ek) = record {
-    few = (λ e. (w, a), λ f. refl);
-    none = (λ e. absurd (omega arith), λ f. absurd (f w (a .0 .legal)));
-    many = (λ e. absurd (omega arith), λ f. absurd (apart w (f .0) (a .0) (f .1 .0) (a .1) (f .1 .1)));
-    values = λ v b.
-        let e = one-answer G s t w v (a .0) (b .0) in
-        (en ∙ ap length e, ed ∙ ap (detour t s) e, ek ∙ ap (λ u. length (corners s u)) e);
-    silent = λ z. absurd (z refl);
-  }
-  coded NoWire f = record {
-    few = (λ e. absurd (omega arith), λ g. absurd (f (g .0) (g .1 .0 .legal)));
-    none = (λ e. f, λ g. refl);
-    many = (λ e. absurd (omega arith), λ g. absurd (f (g .0) (g .1 .0 .legal)));
-    values = λ v b. absurd (f v (b .0 .legal));
-    silent = λ z. (refl, refl, refl);
-  }
-  coded TooManyRuns (w, a) = record {
-    few = (λ e. absurd (omega arith), λ f. absurd (apart (f .0) w (f .1 .0) (a .0) (f .1 .1) (a .1)));
-    none = (λ e. absurd (omega arith), λ f. absurd (f w (a .0 .legal)));
-    many = (λ e. (w, a), λ f. refl);
-    values = λ v b. absurd (apart v w (b .0) (a .0) (b .1) (a .1));
-    silent = λ z. (refl, refl, refl);
-  }
-
-  pub by-code : (r : Routed) → Answers G s t r → ByCode G s t (r .route)
-  by-code r a = coded (r .route) (a .found)

@@ -39,6 +39,14 @@ cornersOf (Wire n d k) = k
 cornersOf NoWire = 0
 cornersOf TooManyRuns = 0
 
+-- the values that go with the number: length, detour and corners, which are counted and stand in the arrays
+pub record Valued (o : Route) (xs ys : List ℕ) (n d : ℕ) (ps : List Node) : Type 0 where
+  pub length-is : lengthOf o ≡ n
+  pub detour-is : detourOf o ≡ d
+  pub corners-are : cornersOf o ≡ length ps
+  pub xs-are : xs ≡ filled 0 most-corners (map (λ p. p .x) ps)
+  pub ys-are : ys ≡ filled 0 most-corners (map (λ p. p .y) ps)
+
 -- ---- what is answered
 
 -- the word that is answered, and how many runs it has
@@ -47,6 +55,19 @@ Few G s t w = Answered G s t w × (length (runs (corners s w)) ≤ most-runs)
 
 abbrev pub Many : Grid → Node → Node → List Dir → Type 0
 Many G s t w = Answered G s t w × (most-runs < length (runs (corners s w)))
+
+-- each number exactly where it applies, and the values that go with it
+pub record Coded (G : Grid) (s t : Node) (o : Route) (xs ys : List ℕ) : Type 0 where
+  pub few : (codeOf o ≡ 0) ↔ ((w : List Dir) × Few G s t w)
+  pub none : (codeOf o ≡ 12) ↔ ((w : List Dir) → ¬ (Legal G s t w))
+  pub many : (codeOf o ≡ 13) ↔ ((w : List Dir) × Many G s t w)
+  pub values : (w : List Dir) → Few G s t w → Valued o xs ys (length w) (detour t s w) (corners s w)
+  pub silent : ¬ (codeOf o ≡ 0) → Valued o xs ys 0 0 []
+
+abbrev pub Answers : Grid → Node → Node → Routed → Type 0
+Answers G s t r = Coded G s t (r .route) (r .xs) (r .ys)
+
+-- ---- the same by cases, for the proofs
 
 unfoldable pub Found : Grid → Node → Node → Route → Type 0
 Found G s t (Wire n d k) = (w : List Dir) × Few G s t w × (n ≡ length w) × (d ≡ detour t s w) × (k ≡ length (corners s w))
@@ -59,20 +80,12 @@ Written G s t (Wire n d k) ps = (w : List Dir) × Answered G s t w × (ps ≡ co
 Written G s t NoWire ps = ps ≡ []
 Written G s t TooManyRuns ps = ps ≡ []
 
-pub record Answers (G : Grid) (s t : Node) (r : Routed) : Type 0 where
-  pub found : Found G s t (r .route)
+pub record Routes (G : Grid) (s t : Node) (o : Route) (xs ys : List ℕ) : Type 0 where
+  pub found : Found G s t o
   pub turned : List Node
-  pub written : Written G s t (r .route) turned
-  pub xs-are : r .xs ≡ filled 0 most-corners (map (λ p. p .x) turned)
-  pub ys-are : r .ys ≡ filled 0 most-corners (map (λ p. p .y) turned)
-
--- the same by the paper's numbers: each code exactly where it applies, and the values that go with it
-pub record ByCode (G : Grid) (s t : Node) (r : Route) : Type 0 where
-  pub few : (codeOf r ≡ 0) ↔ ((w : List Dir) × Few G s t w)
-  pub none : (codeOf r ≡ 12) ↔ ((w : List Dir) → ¬ (Legal G s t w))
-  pub many : (codeOf r ≡ 13) ↔ ((w : List Dir) × Many G s t w)
-  pub values : (w : List Dir) → Few G s t w → (lengthOf r ≡ length w) × (detourOf r ≡ detour t s w) × (cornersOf r ≡ length (corners s w))
-  pub silent : ¬ (codeOf r ≡ 0) → (lengthOf r ≡ 0) × (detourOf r ≡ 0) × (cornersOf r ≡ 0)
+  pub written : Written G s t o turned
+  pub xs-are : xs ≡ filled 0 most-corners (map (λ p. p .x) turned)
+  pub ys-are : ys ≡ filled 0 most-corners (map (λ p. p .y) turned)
 
 -- ---- what is asked: two different pins on the board that are not blocked
 

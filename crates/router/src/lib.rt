@@ -171,7 +171,7 @@ fn on_tracks(
     let sj = index_of(&ys, ny, p.sy);
     let ti = index_of(&xs, nx, p.tx);
     let tj = index_of(&ys, ny, p.ty);
-    let d = distances(&level, &xs, nx, &upright, &ys, ny, ti, tj);
+    let d = distances(&level, &xs, nx, &upright, &ys, ny, ti, tj, si, sj);
     tell(
         &d,
         &level,

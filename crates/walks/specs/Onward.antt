@@ -1,4 +1,4 @@
--- The trace never sticks: from every crossing that is reached it goes on to the goal.
+-- The trace never sticks: from every crossing whose number is owed it goes on to the goal.
 -- Assumes nothing.
 use Prim.Native.Nat.{ℕ, zero, suc, _+_, _<_}
 use native.Mathlib.Decide.{decLt, decLe, ℕ-discrete}
@@ -54,16 +54,16 @@ first-of P dec d p =
     let s = each (λ e. P e → P S) (λ e. absurd (nE e)) (λ n. absurd (nN n)) (λ w. absurd (nW w)) (λ s. s) d p in
     (S, s, each _ (λ h. nE) (λ h. nN) (λ h. nW) (λ h. absurd (omega arith)))
 
-module _ {G : Grid} {T : Axis → Tracks} {D : Node → ℕ} {inf : ℕ} {g : Node} (sliced : Sliced G T) (done : Searched G T D inf g) where
+module _ {G : Grid} {T : Axis → Tracks} {D : Node → ℕ} {inf owed : ℕ} {g : Node} (sliced : Sliced G T) (done : Searched G T D inf owed g) where
   -- the number falls at each crossing of a trace
   pub falls : (q : Node) (d : Dir) → Leads G T D q d → D (step d q) < D q
   falls q d l = omega (arith, l .nearer, way-of sliced d q (l .clear) .1)
 
-  -- from a crossing that is reached, and is not the goal, some direction leads nearer
-  pub some-way : (q : Node) → Crossing T q → D q < inf → ¬ (q ≡ g) → (d : Dir) × Leads G T D q d
+  -- from a crossing whose number is owed, and is not the goal, some direction leads nearer
+  pub some-way : (q : Node) → Crossing T q → D q < owed → ¬ (q ≡ g) → (d : Dir) × Leads G T D q d
   some-way q i r n =
       let s = done .source q i r n in
-      let t = done .settled (s .0) q (s .1) (omega (arith, s .2)) in
+      let t = done .settled (s .0) q (s .1) (omega (arith, s .2, done .within)) in
       (s .0, record { clear = s .1; nearer = omega (arith, s .2, t .1) })
 
   module _ (open? : (a : Axis) (p : Node) → Dec (G .Open a p)) where
@@ -73,11 +73,11 @@ module _ {G : Grid} {T : Axis → Tracks} {D : Node → ℕ} {inf : ℕ} {g : No
         (Dec·and (free? (crossings T G) (λ a p. open? a (spot T p)) q d) (ℕ-discrete (D (step d q) + far T d q) (D q)))
 
     -- a first one, where open edges can be told
-    pub first-way : (q : Node) → Crossing T q → D q < inf → ¬ (q ≡ g)
+    pub first-way : (q : Node) → Crossing T q → D q < owed → ¬ (q ≡ g)
         → (d : Dir) × Leads G T D q d × ((e : Dir) → rank e < rank d → ¬ (Leads G T D q e))
     first-way q i r n = let s = some-way q i r n in first-of (Leads G T D q) (leads? q) (s .0) (s .1)
 
-    traced : (k : ℕ) (q : Node) → Crossing T q → D q < inf → D q < k → (v : List Dir) × Trace G T D g q v
+    traced : (k : ℕ) (q : Node) → Crossing T q → D q < owed → D q < k → (v : List Dir) × Trace G T D g q v
     traced zero q i r h = absurd (omega arith)
     traced (suc k) q i r h =
         by-cases (told (node-says q g)) (λ e. ([], subst (λ p. Trace G T D g p []) (sym e) stop)) λ n.
@@ -87,5 +87,5 @@ module _ {G : Grid} {T : Axis → Tracks} {D : Node → ℕ} {inf : ℕ} {g : No
         let rest = traced k (step d q) (free-inside (crossings T G) q d (f .1 .clear) .1) (omega arith) (omega arith) in
         (replicate (far T d q) d ++ rest .0, go (f .1) (f .2) (rest .1))
 
-    pub never-sticks : (q : Node) → Crossing T q → D q < inf → (v : List Dir) × Trace G T D g q v
+    pub never-sticks : (q : Node) → Crossing T q → D q < owed → (v : List Dir) × Trace G T D g q v
     never-sticks q i r = traced (suc (D q)) q i r (omega arith)

@@ -30,16 +30,16 @@ module _ {w h : ℕ} {X Y : Tracks} (rise-x : Rising X w) (rise-y : Rising Y h) 
   laws = sliced (tracks X Y) bs (all-cut (gridWith w h bs) (tracks X Y) rising bs tracked) w h rising
 
   -- s stands at the crossing p and t at q, and a search to q is done
-  module _ {D : Node → ℕ} {inf : ℕ} (s t p q : Node) (start : spot (tracks X Y) p ≡ s) (end : spot (tracks X Y) q ≡ t) (on : Crossing (tracks X Y) p)
-      (done : Searched (gridWith w h bs) (tracks X Y) D inf q) where
+  module _ {D : Node → ℕ} {inf owed : ℕ} (s t p q : Node) (start : spot (tracks X Y) p ≡ s) (end : spot (tracks X Y) q ≡ t) (on : Crossing (tracks X Y) p)
+      (done : Searched (gridWith w h bs) (tracks X Y) D inf owed q) where
     -- the trace is the answered wire;
     pub route : (v : List Dir) → Trace (gridWith w h bs) (tracks X Y) D q p v → Answered (gridWith w h bs) s t v
     route v l = rw (← start, ← end) (trace-answered laws done p on v l)
 
-    -- where s is reached there is one,
-    pub some-route : D p < inf → (v : List Dir) × Trace (gridWith w h bs) (tracks X Y) D q p v
+    -- where the number of s is owed there is one,
+    pub some-route : D p < owed → (v : List Dir) × Trace (gridWith w h bs) (tracks X Y) D q p v
     some-route r = never-sticks laws done (λ a r. Dec·not (told (blocked-says bs (edge a r)))) p on r
 
-    -- and where it is not there is no wire
+    -- and where s is not reached there is no wire
     pub no-route : inf ≤ D p → (v : List Dir) → ¬ (Legal (gridWith w h bs) s t v)
     no-route r = rw (← start, ← end) (no-wire laws done p on r)

@@ -44,14 +44,15 @@ module _ (G : Grid) (T : Axis → Tracks) (D : Node → ℕ) where
   abbrev pub Settled : ℕ → Type 0
   Settled inf = (d : Dir) (q : Node) → Free (crossings T G) q d → D (step d q) < inf → (D q < inf) × (D q ≤ D (step d q) + far T d q)
 
-  -- What a search to g leaves behind: g has 0, no way makes a number smaller, and each other number that it has come to is owed to a way from a
-  -- smaller one.
-  pub record Searched (inf : ℕ) (g : Node) : Type 0 where
+  -- What a search to g leaves behind: g has 0, no way makes a number smaller, and each other number below `owed` is owed to a way from a smaller
+  -- one. A search may stop before it has come everywhere; then `owed` is less than inf.
+  pub record Searched (inf owed : ℕ) (g : Node) : Type 0 where
     pub on : Crossing T g
     pub some : 0 < inf
+    pub within : owed ≤ inf
     pub here : D g ≡ 0
     pub settled : Settled inf
-    pub source : (q : Node) → Crossing T q → D q < inf → ¬ (q ≡ g) → (d : Dir) × Free (crossings T G) q d × (D (step d q) + far T d q ≤ D q)
+    pub source : (q : Node) → Crossing T q → D q < owed → ¬ (q ≡ g) → (d : Dir) × Free (crossings T G) q d × (D (step d q) + far T d q ≤ D q)
 
   -- ---- it is the general trace, through a table of no turns
 
@@ -68,7 +69,7 @@ module _ (G : Grid) (T : Axis → Tracks) (D : Node → ℕ) where
   pub trace-length : (g : Node) → D g ≡ 0 → (q : Node) (v : List Dir) → Trace g q v → length v ≡ D q
   trace-length g z q v t = Tables.trace-length 0 G T D none g z fresh 0 q v (general g fresh q v t)
 
-module _ {G : Grid} {T : Axis → Tracks} {D : Node → ℕ} {inf : ℕ} {g : Node} (sliced : Sliced G T) (done : Searched G T D inf g) where
+module _ {G : Grid} {T : Axis → Tracks} {D : Node → ℕ} {inf owed : ℕ} {g : Node} (sliced : Sliced G T) (done : Searched G T D inf owed g) where
   settled : Tables.Settled 0 G T D (none G T D) inf
   settled = record { steps = done .settled; straight = λ d q f r e. omega arith; turn = λ a b q i r. omega arith }
 

@@ -6,7 +6,7 @@ use Rattle.blocks.proofs.block_number.Statement.{statement}
 use Rattle.blocks.proofs.block_number.Tie as tie
 
 returns : tie.Need-returns
-returns c = simp (ne-eqb (c .before .args .runs) 0 (λ e. omega (arith, c .if1 .taken)))
+returns c = simp (ne-eqb (c .before .args .runs) 0 (λ e. omega (arith, c .if1 .taken))) (omega (arith, c .if1 .taken))
 
 returns-2 : tie.Need-returns-2
 returns-2 c = simp (eq-eqb (c .before .args .runs) 0 (omega (arith, c .if1 .left)))

@@ -26,11 +26,50 @@ loop-holds c = (search needs, refl, filling-none _ _ _)
 stretch-requires : tie.Need-stretch-requires Inv-loop μ-loop
 stretch-requires c κs = search needs
 
-add-put : tie.Need-add-put Inv-loop μ-loop
-add-put c = search needs
+add-out : tie.Need-add-out Inv-loop μ-loop
+add-out c = search needs
 
-put-requires : tie.Need-put-requires Inv-loop μ-loop
-put-requires c κs = search needs
+mul-out : tie.Need-mul-out Inv-loop μ-loop
+mul-out c = search needs
+
+element-write-out : tie.Need-element-write-out Inv-loop μ-loop
+element-write-out c = search needs
+
+add-out-2 : tie.Need-add-out-2 Inv-loop μ-loop
+add-out-2 c = search needs
+
+mul-out-2 : tie.Need-mul-out-2 Inv-loop μ-loop
+mul-out-2 c = search needs
+
+element-write-out-2 : tie.Need-element-write-out-2 Inv-loop μ-loop
+element-write-out-2 c = search needs
+
+add-out-3 : tie.Need-add-out-3 Inv-loop μ-loop
+add-out-3 c = search needs
+
+mul-out-3 : tie.Need-mul-out-3 Inv-loop μ-loop
+mul-out-3 c = search needs
+
+element-write-out-3 : tie.Need-element-write-out-3 Inv-loop μ-loop
+element-write-out-3 c = search needs
+
+add-out-4 : tie.Need-add-out-4 Inv-loop μ-loop
+add-out-4 c = search needs
+
+mul-out-4 : tie.Need-mul-out-4 Inv-loop μ-loop
+mul-out-4 c = search needs
+
+element-write-out-4 : tie.Need-element-write-out-4 Inv-loop μ-loop
+element-write-out-4 c = search needs
+
+add-out-5 : tie.Need-add-out-5 Inv-loop μ-loop
+add-out-5 c = search needs
+
+mul-out-5 : tie.Need-mul-out-5 Inv-loop μ-loop
+mul-out-5 c = search needs
+
+element-write-out-5 : tie.Need-element-write-out-5 Inv-loop μ-loop
+element-write-out-5 c = search needs
 
 add-k : tie.Need-add-k Inv-loop μ-loop
 add-k c = search needs
@@ -40,12 +79,8 @@ loop-less c = search needs
 
 loop-again : tie.Need-loop-again Inv-loop μ-loop
 loop-again c =
-    let s = c .before in
-    let l = s .before .before .loop in (
-      omega arith,
-      ap (λ b. b .items) (c .put .ensures) ∙ l .inv .1,
-      filling-more _ _ _ _ _ _ _ (l .inv .2) (omega arith) (s .stretch .ensures) (c .put .ensures),
-    )
+    let l = c .before .before .loop in
+    (omega arith, l .inv .1, filling-more _ _ _ _ _ _ _ (l .inv .2) (omega arith) (c .stretch .ensures) refl)
 
 add-close : tie.Need-add-close Inv-loop μ-loop
 add-close c = search needs
@@ -68,8 +103,21 @@ grow-spec =
     element-copy-out-at
     loop-holds
     stretch-requires
-    add-put
-    put-requires
+    add-out
+    mul-out
+    element-write-out
+    add-out-2
+    mul-out-2
+    element-write-out-2
+    add-out-3
+    mul-out-3
+    element-write-out-3
+    add-out-4
+    mul-out-4
+    element-write-out-4
+    add-out-5
+    mul-out-5
+    element-write-out-5
     add-k
     loop-less
     loop-again

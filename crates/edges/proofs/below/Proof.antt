@@ -9,13 +9,13 @@ use Rattle.edges.proofs.below.Statement.{statement}
 use Rattle.edges.proofs.below.Tie as tie
 
 abbrev Inv-loop : tie.InvT-loop
-Inv-loop at count v i₀ i = (i ≤ count) × ((k : ℕ) → k < i → getD at k 0 < v)
+Inv-loop at count v from i₀ i = (from ≤ i) × (i ≤ count) × ((k : ℕ) → k < i → from ≤ k → getD at k 0 < v)
 
 abbrev μ-loop : tie.MeasureT-loop
-μ-loop at count v i₀ i = count - i
+μ-loop at count v from i₀ i = count - i
 
 loop-holds : tie.Need-loop-holds Inv-loop μ-loop
-loop-holds c = search needs
+loop-holds c = (omega arith, omega arith, λ k h p. absurd (omega arith))
 
 mul-wide : tie.Need-mul-wide Inv-loop μ-loop
 mul-wide c = search needs
@@ -29,7 +29,7 @@ wide-requires c κs = search needs
 returns : tie.Need-returns Inv-loop μ-loop
 returns c =
     let l = c .before .before .before .before .loop in
-    record { few = l .inv .0; under = l .inv .1; here = λ h. omega (arith, c .before .wide .ensures) }
+    record { past = l .inv .0; few = l .inv .1; under = l .inv .2; here = λ h. omega (arith, c .before .wide .ensures) }
 
 add-i : tie.Need-add-i Inv-loop μ-loop
 add-i c = search needs
@@ -40,10 +40,10 @@ loop-less c = search needs
 loop-again : tie.Need-loop-again Inv-loop μ-loop
 loop-again c =
     let l = c .before .before .before .before .loop in
-    (search needs, below-more _ _ (l .inv .1) (omega (arith, c .before .wide .ensures)))
+    (omega arith, omega arith, below-more _ _ (l .inv .2) (λ p. omega (arith, c .before .wide .ensures)))
 
 returns-2 : tie.Need-returns-2 Inv-loop μ-loop
-returns-2 c = let l = c .before .loop in record { few = l .inv .0; under = l .inv .1; here = λ h. absurd (omega arith) }
+returns-2 c = let l = c .before .loop in record { past = l .inv .0; few = l .inv .1; under = l .inv .2; here = λ h. absurd (omega arith) }
 
 pub below-spec : {M : Type 1} → statement M
 below-spec =

@@ -1,9 +1,9 @@
--- `edges::met` meets its contract: the range starts and ends where the tracks pass the two sides.
+-- `edges::met` meets its contract: each range starts and ends where the tracks pass the two sides.
 -- Assumes nothing.
 use Prim.Native.Nat.{_+_, _-_}
 use native.Mathlib.Omega.{arith}
 use borrow.Author.Needs.{needs}
-use Rattle.edges.specs.Laws.{below-as, meeting}
+use Rattle.edges.specs.Laws.{below-as, below-on, meeting}
 use Rattle.edges.proofs.met.Statement.{statement}
 use Rattle.edges.proofs.met.Tie as tie
 
@@ -12,12 +12,6 @@ wide-requires c κs = search needs
 
 wide-requires-2 : tie.Need-wide-requires-2
 wide-requires-2 c κs = search needs
-
-add-less : tie.Need-add-less
-add-less c = search needs
-
-sub-less : tie.Need-sub-less
-sub-less c = search needs
 
 less-requires : tie.Need-less-requires
 less-requires c κs = search needs
@@ -28,26 +22,42 @@ below-requires c κs = search needs
 wide-requires-3 : tie.Need-wide-requires-3
 wide-requires-3 c κs = search needs
 
-add-below : tie.Need-add-below
-add-below c = search needs
+add-less : tie.Need-add-less
+add-less c = search needs
+
+less-requires-2 : tie.Need-less-requires-2
+less-requires-2 c κs = search needs
 
 below-requires-2 : tie.Need-below-requires-2
 below-requires-2 c κs = search needs
 
+wide-requires-4 : tie.Need-wide-requires-4
+wide-requires-4 c κs = search needs
+
+add-below : tie.Need-add-below
+add-below c = search needs
+
+below-requires-3 : tie.Need-below-requires-3
+below-requires-3 c κs = search needs
+
 returns : tie.Need-returns
 returns c =
-    let b = c .before .before in
-    let l = b .before in
-    let s = l .before .before .before in
-    let g = s .args in
-    let low = l .before .wide2 .ensures in
-    let m = l .before .before .wide .ensures in
-    let high = c .before .wide3 .ensures in
-    meeting (g .at .now) (g .count) (g .lo) (g .hi) (g .c) (g .reach) (g .lo + 1 - g .reach) _ _ (s .pre .1) (omega (arith, s .pre .2))
-    (below-as (g .lo + 1 - g .reach - g .c) (b .below .ensures) (omega (arith, l .less .ensures, low, m)))
-    (below-as (g .hi + g .c) (c .below2 .ensures) (omega (arith, high, m)))
+    let t = c .before .before in
+    let s = t .before .before .before in
+    let w = s .before .before .before in
+    let e = w .before in
+    let g = e .args in
+    let m = w .wide .ensures in
+    let slab = below-as (g .lo - g .c) (s .below .ensures) (omega arith) in
+    let track = below-as (g .lo + 1 - g .c) (t .below2 .ensures) (omega arith) in
+    let end = below-as (g .hi + g .c) (c .below3 .ensures) (omega arith) in
+    let rise = e .pre .1 in (
+      meeting (g .at .now) (g .count) (g .lo) (g .hi) (g .c) 1 (g .lo) _ _ _ rise (omega arith) slab (omega arith) end,
+      meeting (g .at .now) (g .count) (g .lo) (g .hi) (g .c) 0 (g .lo + 1) _ _ _ rise (omega arith) (below-on (omega arith) slab track) (track .past) end,
+    )
 
 pub met-spec : {M : Type 1} → statement M
 met-spec =
     tie.close
-    (tie.spec wide-requires wide-requires-2 add-less sub-less less-requires below-requires wide-requires-3 add-below below-requires-2 returns)
+    (tie.spec wide-requires wide-requires-2 less-requires below-requires wide-requires-3 add-less less-requires-2 below-requires-2
+    wide-requires-4 add-below below-requires-3 returns)

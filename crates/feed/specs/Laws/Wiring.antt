@@ -31,6 +31,7 @@ use Rattle.router.specs.declared.Route.{Route}
 use Rattle.router.specs.declared.Route.the-variants.{Wire, NoWire as NoRoute, TooManyRuns as ManyRuns}
 use Rattle.router.specs.declared.Routed.{Routed}
 use Rattle.router.specs.Route.{Found as Told, Written, Answers, Asked}
+use Rattle.router.specs.One.{routes-of}
 use Rattle.feed.specs.declared.Wired.{Wired}
 use Rattle.feed.specs.Feeding.{isFound, Hit, hereIs, startChecks, noWire, wiredBy, wiredOf, Spelled, Wires}
 
@@ -120,7 +121,8 @@ module _ (l : Layout) (p : Pins) (g : Gives (startChecks l p) 0) where
 pub wires-told : (b : Blocks) (l : Layout) (p : Pins) (r : Routed) (n : ℕ) → HeldOf b wires l → Gives (startChecks l p) 0
     → Answers (Rattle.paper.specs.Grid.gridWith (l .size .w) (l .size .h) (flat b)) (source p) (target p) r → n ≡ blockCount (l .items) → Wires l p (wiredOf r n)
 wires-told b l p r n held g a e =
-    let h : Answers (gridOf (l .size) (l .items)) (source p) (target p) r = rw (flat-held held) at a in
+    let c : Answers (gridOf (l .size) (l .items)) (source p) (target p) r = rw (flat-held held) at a in
+    let h = routes-of (gridOf (l .size) (l .items)) (source p) (target p) (r .route) (r .xs) (r .ys) c in
     wires-by l p g (r .route) (h .turned) (r .xs) (r .ys) n e (h .found) (h .written) (h .xs-are) (h .ys-are)
 
 -- ---- how many corners

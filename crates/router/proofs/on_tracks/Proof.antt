@@ -66,8 +66,16 @@ index-of-requires-4 c κs = let s = c .before .before .before .before .before .b
 
 distances-requires : tie.Need-distances-requires
 distances-requires c κs =
-    let s = c .before .before .before .before .before .before .before .before .before .before .before .before .before .before .before .before .before .before .before .before .before in
-    (s .pre .on-x .few, s .pre .on-y .few, c .before .before .before .before .before .before .index-of3 .ensures .0, c .before .before .before .before .index-of4 .ensures .0, wide-x s, wide-y s)
+    let s = c .before .before .before .before .before .before .before .before .before .before .before .before .before .before .before .before .before .before .before .before .before in (
+      s .pre .on-x .few,
+      s .pre .on-y .few,
+      c .before .before .before .before .before .before .index-of3 .ensures .0,
+      c .before .before .before .before .index-of4 .ensures .0,
+      c .before .before .before .before .before .before .before .before .before .before .index-of .ensures .0,
+      c .before .before .before .before .before .before .before .before .index-of2 .ensures .0,
+      wide-x s,
+      wide-y s,
+    )
 
 tell-requires : tie.Need-tell-requires
 tell-requires c κs =
