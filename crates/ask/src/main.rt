@@ -231,7 +231,7 @@ fn mix_answer(sum: u64, r: Routed) -> u64
             corners,
         ),
         Route::NoWire => mix_wire(sum, 12, 0, 0, 0),
-        Route::TooManyRuns => mix_wire(sum, 13, 0, 0, 0),
+        Route::TooManyRuns(_) => mix_wire(sum, 13, 0, 0, 0),
     }
 }
 

@@ -71,6 +71,14 @@ unfoldable pub FirstIs : Blocks → Look → Place → Found → Type 0
 FirstIs b look p (At i) = Stops b look p i × ((j : ℕ) → j < i → ¬ (Stops b look p j))
 FirstIs b look p Nothing = (j : ℕ) → ¬ (Stops b look p j)
 
+abbrev pub isFound : Found → Bool
+isFound (At i) = true
+isFound Nothing = false
+
+-- whether there is one
+unfoldable pub Hit : Blocks → Look → Place → Bool → Type 0
+Hit b look p r = (f : Found) × FirstIs b look p f × (r ≡ isFound f)
+
 -- ---- what is held
 
 -- the starts ss with the last end, the flags fs and the blocks bs; every place that is not used holds 0

@@ -11,7 +11,7 @@ ghost use Rattle.paper.specs.Layout.{wires, Meet};
 ghost use Rattle.paper.specs.Padding.{WellFormed};
 ghost use Rattle.paper.specs.Laws.Back.{thingOf, layoutOf};
 ghost use Rattle.paper.specs.Laws.Says.{Says};
-ghost use Rattle.blocks.specs.Flat.{span, placeArea, Fits, looked, FirstIs, packed, Held, HeldOf, sortTo};
+ghost use Rattle.blocks.specs.Flat.{span, placeArea, Fits, looked, FirstIs, Hit, packed, Held, HeldOf, sortTo};
 ghost use Rattle.blocks.specs.Growing.{withEnd, stretchAt, stretched, Room, Grows, Adds};
 ghost use Rattle.blocks.specs.Meeting.{Placed, blockNumber, keptFrom};
 
@@ -95,6 +95,17 @@ pub fn scan(b: Blocks, look: Look, p: Place) -> Found
         i += 1;
     };
     hit
+}
+
+// Whether there is one.
+pub fn hit(b: Blocks, look: Look, p: Place) -> bool
+    requires { ⌜ Fits b ⌝ }
+    ensures { λ r. ⌜ Hit b look p r ⌝ }
+{
+    match scan(b, look, p) {
+        Found::At(_) => true,
+        Found::Nothing => false,
+    }
 }
 
 // ---- the blocks of a board

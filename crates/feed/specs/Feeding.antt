@@ -2,7 +2,6 @@
 -- Assumes nothing.
 use Prim.Native.Nat.{ℕ, _+_, _-_, _≤_, _<_}
 use mathlib.Core.Path.{_≡_}
-use mathlib.Core.Bool.{Bool, true, false}
 use mathlib.Core.Logic.{_⊎_}
 use mathlib.Core.List.{List, [], _∷_, map}
 use lib.ListN.{length, replicate, take}
@@ -20,32 +19,17 @@ use Rattle.paper.specs.Wire.{detour}
 use Rattle.paper.specs.Layout.{OnBoard, blockCount, Layout}
 use Rattle.paper.specs.Padding.{filled, boardOf}
 use Rattle.paper.specs.Reading.{Plain, fieldsOf}
-use Rattle.paper.specs.Answer.{Check, _if_, _unless_, Gives, source, target, BeforeBounds, OnBlock, TheWire, way, checks, pinChecks, addTo, written, Replies}
+use Rattle.paper.specs.Answer.{plain, Check, _if_, _unless_, Gives, source, target, BeforeBounds, OnBlock, TheWire, way, checks, pinChecks, addTo, written, Replies}
 use Rattle.paper.specs.Laws.Back.{nodes, thingOf, layoutOf}
 use Rattle.paper.specs.Laws.Standing.{Standing}
 use Rattle.paper.specs.Laws.Feeds.{refusing}
-use Rattle.blocks.specs.declared.Blocks.{Blocks}
-use Rattle.blocks.specs.declared.Look.{Look}
 use Rattle.blocks.specs.declared.Place.{Place}
-use Rattle.blocks.specs.declared.Found.{Found}
-use Rattle.blocks.specs.declared.Found.the-variants.{At, Nothing}
-use Rattle.blocks.specs.Flat.{FirstIs}
 use Rattle.items.specs.Items.{Whole}
 use Rattle.router.specs.declared.Route.{Route}
 use Rattle.router.specs.declared.Route.the-variants.{Wire, NoWire, TooManyRuns}
 use Rattle.router.specs.declared.Routed.{Routed}
 use Rattle.router.specs.Route.{codeOf, lengthOf, detourOf, cornersOf}
 use Rattle.feed.specs.declared.Wired.{Wired}
-
--- ---- what a scan finds
-
-abbrev pub isFound : Found → Bool
-isFound (At i) = true
-isFound Nothing = false
-
--- the scan finds something
-unfoldable pub Hit : Blocks → Look → Place → Bool → Type 0
-Hit b look p r = (f : Found) × FirstIs b look p f × (r ≡ isFound f)
 
 abbrev pub hereIs : ℕ → ℕ → Place
 hereIs x y = record { x0 = x; y0 = y; x1 = x; y1 = y }
@@ -92,7 +76,7 @@ wiredBy (Wire n d k) xs ys b = record {
   ys = ys;
 }
 wiredBy NoWire xs ys b = noWire (codeOf NoWire)
-wiredBy TooManyRuns xs ys b = noWire (codeOf TooManyRuns)
+wiredBy (TooManyRuns n) xs ys b = noWire (codeOf (TooManyRuns n))
 
 abbrev pub wiredOf : Routed → ℕ → Wired
 wiredOf r b = wiredBy (r .route) (r .xs) (r .ys) b
@@ -106,7 +90,7 @@ pub record Spelled (p : Pins) (w : Wired) (v : List Dir) : Type 0 where
   pub ys-are : w .ys ≡ filled 0 most-corners (map (λ q. q .y) (way p v))
 
 pub record Wires (l : Layout) (p : Pins) (w : Wired) : Type 0 where
-  pub code : Gives (pinChecks l p) (w .code)
+  pub code : Gives (pinChecks l p) (plain (w .code))
   pub blocks : w .code ≡ 0 → w .blocks ≡ blockCount (l .items)
   pub wire : w .code ≡ 0 → TheWire l p (Spelled p w)
 
@@ -115,7 +99,7 @@ abbrev pub lentChecks : Layout → ℕ → List Check
 lentChecks l n = (2 if BeforeBounds l) ∷ (16 if (n < least-slice)) ∷ []
 
 unfoldable pub KeepOutCode : Layout → Id → Rect → ℕ → Type 0
-KeepOutCode l i r k = (n : ℕ) → Gives (checks l (KeepOut i r) n) k
+KeepOutCode l i r k = (n : ℕ) → Gives (checks l (KeepOut i r) n) (plain k)
 
 abbrev pub wiredReply : Board → Wired → Reply
 wiredReply b w = record { code = 0; length = w .length; detour = w .detour; corners = w .corners; board = b }

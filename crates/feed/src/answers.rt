@@ -17,7 +17,7 @@ ghost use Prim.Native.Nat.{_+_, _≤_};
 ghost use lib.ListN.{length, take};
 ghost use Rattle.paper.specs.Limits.{most-corners};
 ghost use Rattle.paper.specs.Padding.{WellFormed};
-ghost use Rattle.paper.specs.Answer.{Gives, written, Replies};
+ghost use Rattle.paper.specs.Answer.{plain, Gives, written, Replies};
 ghost use Rattle.paper.specs.Laws.Back.{nodes, layoutOf};
 ghost use Rattle.feed.specs.Feeding.{KindIs, lentChecks, wiredReply, wireItem, Laying, Lays};
 
@@ -49,7 +49,7 @@ fn wire_reply(board: Board, w: Wired) -> Reply
 
 // The code that a lay or an ask gets before its pins are looked at.
 fn lent_code(board: Board, lent: usize) -> u8
-    ensures { λ r. ⌜ Gives (lentChecks (layoutOf board) lent) r ⌝ }
+    ensures { λ r. ⌜ Gives (lentChecks (layoutOf board) lent) (plain r) ⌝ }
 {
     if board.size.w == 0 {
         return 2;

@@ -1,9 +1,9 @@
 // The kinds that tell no wire: bounds, keep-out, take out, undo.
-use crate::tests::hit;
 use crate::tests::used;
 use crate::told;
 use blocks::Look;
 use blocks::Place;
+use blocks::hit;
 use blocks::of_board;
 use items::add_item;
 use items::begin;

@@ -1,8 +1,4 @@
 // Tests of single things.
-use blocks::Blocks;
-use blocks::Look;
-use blocks::Place;
-use blocks::scan;
 use items::find;
 use paper::Board;
 use paper::Pins;
@@ -13,8 +9,6 @@ ghost use Rattle.paper.specs.Padding.{WellFormed};
 ghost use Rattle.paper.specs.Answer.{source, target};
 ghost use Rattle.paper.specs.Laws.Back.{layoutOf};
 ghost use Rattle.paper.specs.Laws.Says.{Says};
-ghost use Rattle.blocks.specs.Flat.{Fits};
-ghost use Rattle.feed.specs.Feeding.{Hit};
 
 // Both pins lie on the board.
 pub(crate) fn on_board(s: Size, p: Pins) -> bool
@@ -50,16 +44,5 @@ pub(crate) fn used(board: Board, id: u16) -> bool
     match find(board, id) {
         items::Found::At(_) => true,
         items::Found::Free => false,
-    }
-}
-
-// An item that counts blocks the place.
-pub(crate) fn hit(held: Blocks, look: Look, place: Place) -> bool
-    requires { ⌜ Fits held ⌝ }
-    ensures { λ r. ⌜ Hit held look place r ⌝ }
-{
-    match scan(held, look, place) {
-        blocks::Found::At(_) => true,
-        blocks::Found::Nothing => false,
     }
 }

@@ -1,11 +1,11 @@
 // What two pins get: the answered wire, or the code that stands in its way.
 use crate::Wired;
-use crate::tests::hit;
 use crate::tests::on_board;
 use crate::tests::one_node;
 use blocks::Blocks;
 use blocks::Look;
 use blocks::Place;
+use blocks::hit;
 use blocks::of_board;
 use paper::Board;
 use paper::MOST_CORNERS;
@@ -18,7 +18,7 @@ ghost use Prim.Native.Nat.{_≤_};
 ghost use lib.ListN.{length};
 ghost use Rattle.paper.specs.Layout.{wires};
 ghost use Rattle.paper.specs.Padding.{WellFormed};
-ghost use Rattle.paper.specs.Answer.{Gives};
+ghost use Rattle.paper.specs.Answer.{plain, Gives};
 ghost use Rattle.paper.specs.Laws.Back.{layoutOf};
 ghost use Rattle.blocks.specs.Flat.{HeldOf};
 ghost use Rattle.feed.specs.Feeding.{hereIs, startChecks, wiredOf, noWire, Wires};
@@ -37,7 +37,7 @@ fn here(x: u16, y: u16) -> Place
 // The code that two pins get before a wire is looked for.
 fn pin_code(board: Board, held: Blocks, p: Pins) -> u8
     requires { ⌜ WellFormed board × HeldOf held wires (layoutOf board) ⌝ }
-    ensures { λ r. ⌜ Gives (startChecks (layoutOf board) p) r ⌝ }
+    ensures { λ r. ⌜ Gives (startChecks (layoutOf board) p) (plain r) ⌝ }
 {
     if !on_board(board.size, p) {
         return 9;
@@ -90,7 +90,7 @@ fn tell(found: Routed, blocks: usize) -> Wired
             }
         }
         Route::NoWire => no_wire(12),
-        Route::TooManyRuns => no_wire(13),
+        Route::TooManyRuns(_) => no_wire(13),
     }
 }
 

@@ -9,10 +9,11 @@ use Rattle.paper.specs.declared.Rect.{Rect}
 use Rattle.paper.specs.declared.Pins.{Pins}
 use Rattle.paper.specs.declared.Board.{Board}
 use Rattle.paper.specs.declared.Reply.{Reply}
+use Rattle.paper.specs.declared.Verdict.{Verdict}
 use Rattle.paper.specs.declared.Record.{Record}
 use Rattle.paper.specs.declared.Record.the-variants.{Bounds, KeepOut, Lay, Ask, TakeOut, Undo, Malformed}
 use Rattle.paper.specs.Limits.{most-blocks, most-runs, most-kept, least-slice}
-use Rattle.paper.specs.Grid.{Node, Dir, Any, Blocked, node}
+use Rattle.paper.specs.Grid.{Node, Dir, Area, Any, Blocked, node}
 use Rattle.paper.specs.Wire.{Legal, Answered, corners, runs, detour}
 use Rattle.paper.specs.Layout.{Thing, keep-out, wire, idOf, Sort, keep-outs, wires, sortOf, rectangle, blocksOf, blocksTo, blockCount, gridOf, RectFits, OnBoard, Turn, added, taken, add, without, Has, Used, undo, Layout, InRange, empty}
 use Rattle.paper.specs.Padding.{boardOf, Holds, WellFormed}
@@ -20,16 +21,34 @@ use Rattle.paper.specs.Reading.{Reads}
 
 -- ---- the first code that applies
 
-infix 30 _if_ _unless_
+-- the code, about the run or the pin with this number; about none of them
+abbrev pub placed : ℕ → ℕ → Verdict
+placed k i = record { code = k; place = i; id = 0 }
+
+abbrev pub plain : ℕ → Verdict
+plain k = placed k 0
+
+infix 30 _if_ _unless_ _about_if_
 pub data Check : Type 1 where
-  _if_ : ℕ → Type 0 → Check
+  _about_if_ : ℕ → ℕ → Type 0 → Check
   _unless_ : ℕ → Type 0 → Check
 
+abbrev pub _if_ : ℕ → Type 0 → Check
+_if_ n p = n about 0 if p
+
+-- the check applies, and gives the verdict; it does not apply
+abbrev pub Applies : Check → Verdict → Type 0
+Applies (n about i if p) v = p × (v ≡ placed n i)
+Applies (n unless p) v = (¬ p) × (v ≡ plain n)
+
+abbrev pub Idle : Check → Type 0
+Idle (n about i if p) = ¬ p
+Idle (n unless p) = p
+
 -- the first that applies is given, and 0 where none does
-unfoldable pub Gives : List Check → ℕ → Type 0
-Gives [] k = k ≡ 0
-Gives ((n if p) ∷ cs) k = (p × (k ≡ n)) ⊎ ((¬ p) × Gives cs k)
-Gives ((n unless p) ∷ cs) k = ((¬ p) × (k ≡ n)) ⊎ (p × Gives cs k)
+unfoldable pub Gives : List Check → Verdict → Type 0
+Gives [] v = v ≡ plain 0
+Gives (c ∷ cs) v = Applies c v ⊎ (Idle c × Gives cs v)
 
 -- ---- what the codes say of a layout
 
@@ -42,9 +61,13 @@ target p = record { x = p .tx; y = p .ty }
 abbrev pub BeforeBounds : Layout → Type 0
 BeforeBounds l = l .size .w ≡ 0
 
+-- the item is of the sort `of`, and blocks the place to something of the sort `to`
+unfoldable pub Bars : Layout → Sort → Sort → Area → Thing → Type 0
+Bars l to of a t = (sortOf t ≡ of) × Blocked (blocksOf (l .size .clearance) to t) a
+
 -- the rectangle's interior meets an item of the sort
-unfoldable pub Enters : Layout → Rect → Sort → Type 0
-Enters l r by = Any (λ t. (sortOf t ≡ by) × Blocked (blocksOf (l .size .clearance) keep-outs t) (rectangle r)) (l .items)
+abbrev pub Enters : Layout → Rect → Sort → Type 0
+Enters l r of = Any (Bars l keep-outs of (rectangle r)) (l .items)
 
 abbrev pub OnBlock : Layout → Node → Type 0
 OnBlock l p = Blocked (blocksTo (l .size .clearance) wires (l .items)) (node p)
@@ -172,8 +195,12 @@ Accepted l rec s s′ r = (o : Outcome) × Does l rec o × Tells (o .long) (o .a
 abbrev pub left : Layout → Layout
 left l = l
 
+-- what the reply says
+abbrev pub verdict : Reply → Verdict
+verdict r = plain (r .code)
+
 pub record Replies (l : Layout) (rec : Record) (s s′ : List ℕ) (r : Reply) : Type 0 where
-  pub code : Gives (checks l rec (length s)) (r .code)
+  pub code : Gives (checks l rec (length s)) (verdict r)
   pub refused : ¬ (r .code ≡ 0) → Refused (boardOf (left l)) s s′ r
   pub accepted : r .code ≡ 0 → Accepted l rec s s′ r
 

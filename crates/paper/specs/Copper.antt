@@ -11,7 +11,7 @@ use Rattle.paper.specs.declared.Reply.{Reply}
 use Rattle.paper.specs.declared.Record.{Record}
 use Rattle.paper.specs.declared.Record.the-variants.{Lay, Ask}
 use Rattle.paper.specs.Grid.{Node, Dir, step, Grid, Area, Any, All}
-use Rattle.paper.specs.Wire.{Legal, Answered, runs, manhattan, detour}
+use Rattle.paper.specs.Wire.{ToGo, Answered, runs, manhattan, detour}
 use Rattle.paper.specs.Layout.{Thing, keep-out, wire, rectangle, gridOf, Layout}
 use Rattle.paper.specs.Answer.{source, target, way, written}
 
@@ -41,13 +41,6 @@ Shuns k c p (keep-out i r) = ¬ (In k p (rectangle r))
 Shuns k c p (wire i qs) = (q : Node) → OnWire k q qs → Far k c p q
 
 -- ---- the distance still to go
-
--- from p, some legal wire to t has n steps, and none has fewer
-pub record ToGo (G : Grid) (t p : Node) (n : ℕ) : Type 0 where
-  pub by : List Dir
-  pub legal : Legal G p t by
-  pub long : length by ≡ n
-  pub least : (v : List Dir) → Legal G p t v → n ≤ length v
 
 -- from each node of the walk it is smaller than from the node before
 unfoldable pub Falls : Grid → Node → Node → List Dir → Type 0

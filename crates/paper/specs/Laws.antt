@@ -6,6 +6,7 @@ pub mod Among
 pub mod Apart
 pub mod Steps
 -- one answer to everything
+pub mod Checks
 pub mod Least
 pub mod Read
 pub mod Back

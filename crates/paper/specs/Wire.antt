@@ -26,6 +26,13 @@ pub record Answered (G : Grid) (s t : Node) (w : List Dir) : Type 0 where
   pub shortest : (v : List Dir) → Legal G s t v → length w ≤ length v
   pub first : (v : List Dir) → Legal G s t v → length v ≡ length w → First w v
 
+-- from p, some legal wire to t has n steps, and none has fewer
+pub record ToGo (G : Grid) (t p : Node) (n : ℕ) : Type 0 where
+  pub by : List Dir
+  pub legal : Legal G p t by
+  pub long : length by ≡ n
+  pub least : (v : List Dir) → Legal G p t v → n ≤ length v
+
 -- the corners that are left of a walk which has come to p by the direction d: p where it turns, and its end
 unfoldable pub turns : Dir → Node → List Dir → List Node
 turns d p [] = p ∷ []

@@ -71,6 +71,13 @@ pub struct Board {
     pub changes: [Change; MOST_KEPT],
 }
 
+// What is said: a code, the run or the pin that it is about, counted from 1, and an item's id; 0 where none is named.
+pub struct Verdict {
+    pub code: u8,
+    pub place: u8,
+    pub id: u16,
+}
+
 // `corners`: how many corners stand in the answer slice, 0 unless a lay or an ask was accepted.
 pub struct Reply {
     pub code: u8,

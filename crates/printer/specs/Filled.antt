@@ -9,7 +9,7 @@ use lib.Dec.{ltb}
 use Rattle.paper.specs.declared.Board.{Board}
 use Rattle.paper.specs.Layout.{fresh}
 use Rattle.paper.specs.Padding.{boardOf, WellFormed}
-use Rattle.sheet.specs.Text.{Puts, Writes}
+use Rattle.text.specs.Text.{Puts, Writes}
 use Rattle.sheet.specs.Sheet.{lastLine, most-records, line-room, Steps, Stepped, Printing, linesOf}
 use Rattle.printer.specs.declared.Place.{Place}
 

@@ -11,9 +11,9 @@ use Rattle.paper.specs.declared.Board.{Board}
 use Rattle.paper.specs.Layout.{fresh}
 use Rattle.paper.specs.Padding.{boardOf}
 use Rattle.sheet.specs.declared.Printed.{Printed}
-use Rattle.sheet.specs.Text.{Puts}
+use Rattle.text.specs.Text.{Puts}
 use Rattle.sheet.specs.Sheet.{most-records, line-room, Stepped, Printing, linesOf, StepsIn}
-use Rattle.sheet.specs.Laws.Written.{puts-length, puts-join}
+use Rattle.text.specs.Laws.Written.{puts-length, puts-join}
 use Rattle.printer.specs.declared.Place.{Place}
 use Rattle.printer.specs.Filled.{Within, Leads, here, further, Over, Filled, Fills, AllPrinted}
 

@@ -8,7 +8,7 @@ use mathlib.Core.List.{List, _++_}
 use lib.ListN.{length, take, drop, length-append}
 use lib.Seq.{length-take-le}
 use lib.Dec.{T, ltb, ltb→lt}
-use Rattle.sheet.specs.Text.{Puts}
+use Rattle.text.specs.Text.{Puts}
 
 abbrev pub one : Bool → ℕ
 one true = 1

@@ -80,11 +80,11 @@ module _ (G : Grid) (p : Pins) where
   answers-none n = answers-of G (source p) (target p) NoWire _ _ (record { found = n; turned = []; written = refl; xs-are = refl; ys-are = refl })
 
   module _ (w : List Dir) (a : Answered G (source p) (target p) w) where
-    pub answers-many : most-corners < length (corners (source p) w) → Answers G (source p) (target p) (silence TooManyRuns)
+    pub answers-many : most-corners < length (corners (source p) w) → Answers G (source p) (target p) (silence (TooManyRuns (length w)))
     unfolding Found Written
     answers-many h =
-        answers-of G (source p) (target p) TooManyRuns _ _
-        (record { found = (w, (a, omega (arith, corner-runs (source p) w))); turned = []; written = refl; xs-are = refl; ys-are = refl })
+        answers-of G (source p) (target p) (TooManyRuns (length w)) _ _
+        (record { found = (w, (a, omega (arith, corner-runs (source p) w)), refl); turned = []; written = refl; xs-are = refl; ys-are = refl })
 
     pub answers-few : length (corners (source p) w) ≤ most-corners → Answers G (source p) (target p) (telling (length w) p (corners (source p) w))
     unfolding Found Written
@@ -120,5 +120,5 @@ answers w h bs m k tracked d s t dist sx sy tx ty p start end r tell =
               let e = tell .few-told (g .word) (g .trail) near (rw start few) in
               rw (e, start, ← g .long) (answers-few (gridWith w h bs) p (g .word) (g .answered) few)
           | no many ↦
-              rw (tell .many-told (g .word) (g .trail) near (rw start (omega arith))) (answers-many (gridWith w h bs) p (g .word) (g .answered) (omega arith))
+              rw (tell .many-told (g .word) (g .trail) near (rw start (omega arith)), ← g .long) (answers-many (gridWith w h bs) p (g .word) (g .answered) (omega arith))
         ]

@@ -29,19 +29,19 @@ module _ (G : Grid) (s t : Node) where
       let z : k ≡ k′ = ek ∙ ap (λ u. length (corners s u)) e ∙ sym fk in
       λ i. Wire (x i) (y i) (z i)
   same-route (Wire n d k) NoWire f g = absurd (g (f .0) (f .1 .0 .legal))
-  same-route (Wire n d k) TooManyRuns f g = absurd (apart (f .0) (g .0) (f .1 .0) (g .1 .0) (f .1 .1) (g .1 .1))
+  same-route (Wire n d k) (TooManyRuns m) f g = absurd (apart (f .0) (g .0) (f .1 .0) (g .1 .0) (f .1 .1) (g .1 .1))
   same-route NoWire (Wire n d k) f g = absurd (f (g .0) (g .1 .0 .legal))
   same-route NoWire NoWire f g = refl
-  same-route NoWire TooManyRuns f g = absurd (f (g .0) (g .1 .0 .legal))
-  same-route TooManyRuns (Wire n d k) f g = absurd (apart (g .0) (f .0) (g .1 .0) (f .1 .0) (g .1 .1) (f .1 .1))
-  same-route TooManyRuns NoWire f g = absurd (g (f .0) (f .1 .0 .legal))
-  same-route TooManyRuns TooManyRuns f g = refl
+  same-route NoWire (TooManyRuns m) f g = absurd (f (g .0) (g .1 .0 .legal))
+  same-route (TooManyRuns m) (Wire n d k) f g = absurd (apart (g .0) (f .0) (g .1 .0) (f .1 .0) (g .1 .1) (f .1 .1))
+  same-route (TooManyRuns m) NoWire f g = absurd (g (f .0) (f .1 .0 .legal))
+  same-route (TooManyRuns m) (TooManyRuns n) f g = ap TooManyRuns (f .2 ∙ ap length (one-answer G s t (f .0) (g .0) (f .1 .0) (g .1 .0)) ∙ sym (g .2))
 
   same-corners : (r : Route) (ps qs : List Node) → Written G s t r ps → Written G s t r qs → ps ≡ qs
   unfolding Written
   same-corners (Wire n d k) ps qs f g = f .2 ∙ ap (corners s) (one-answer G s t (f .0) (g .0) (f .1) (g .1)) ∙ sym (g .2)
   same-corners NoWire ps qs f g = f ∙ sym g
-  same-corners TooManyRuns ps qs f g = f ∙ sym g
+  same-corners (TooManyRuns n) ps qs f g = f ∙ sym g
 
   -- ---- by cases, and by the number
 
@@ -79,6 +79,7 @@ module _ (G : Grid) (s t : Node) where
               ys-are = arrays (λ p. p .y) ys (r .turned) (corners s v) ps (r .ys-are);
             };
         silent = λ z. absurd (z refl);
+        shortest = λ v b. r .found .2 ∙ ap length (one-answer G s t w v (a .0) b);
       }
   answers-of NoWire xs ys r = record {
     few = (λ e. absurd (omega arith), λ g. absurd (r .found (g .0) (g .1 .0 .legal)));
@@ -86,8 +87,9 @@ module _ (G : Grid) (s t : Node) where
     many = (λ e. absurd (omega arith), λ g. absurd (r .found (g .0) (g .1 .0 .legal)));
     values = λ v b. absurd (r .found v (b .0 .legal));
     silent = λ z. silence NoWire xs ys (r .turned) refl refl refl (r .written) (r .xs-are) (r .ys-are);
+    shortest = λ v b. absurd (r .found v (b .legal));
   }
-  answers-of TooManyRuns xs ys r =
+  answers-of (TooManyRuns n) xs ys r =
       let w = r .found .0 in
       let a = r .found .1 in
       record {
@@ -95,7 +97,8 @@ module _ (G : Grid) (s t : Node) where
         none = (λ e. absurd (omega arith), λ f. absurd (f w (a .0 .legal)));
         many = (λ e. (w, a), λ f. refl);
         values = λ v b. absurd (apart v w (b .0) (a .0) (b .1) (a .1));
-        silent = λ z. silence TooManyRuns xs ys (r .turned) refl refl refl (r .written) (r .xs-are) (r .ys-are);
+        silent = λ z. silence (TooManyRuns n) xs ys (r .turned) refl refl refl (r .written) (r .xs-are) (r .ys-are);
+        shortest = λ v b. r .found .2 ∙ ap length (one-answer G s t w v (a .0) b);
       }
 
   pub routes-of : (o : Route) (xs ys : List ℕ) → Coded G s t o xs ys → Routes G s t o xs ys
@@ -113,9 +116,10 @@ module _ (G : Grid) (s t : Node) where
   routes-of NoWire xs ys c =
       let v = c .silent (λ e. omega arith) in
       record { found = c .none .0 refl; turned = []; written = refl; xs-are = v .xs-are; ys-are = v .ys-are }
-  routes-of TooManyRuns xs ys c =
+  routes-of (TooManyRuns n) xs ys c =
       let v = c .silent (λ e. omega arith) in
-      record { found = c .many .0 refl; turned = []; written = refl; xs-are = v .xs-are; ys-are = v .ys-are }
+      let m = c .many .0 refl in
+      record { found = (m .0, m .1, c .shortest (m .0) (m .1 .0)); turned = []; written = refl; xs-are = v .xs-are; ys-are = v .ys-are }
 
   pub one-route : (r q : Routed) → Answers G s t r → Answers G s t q → r ≡ q
   one-route r q c d =

@@ -22,22 +22,28 @@ use Rattle.router.specs.declared.Route.the-variants.{Wire, NoWire, TooMa
 abbrev pub codeOf : Route → ℕ
 codeOf (Wire n d k) = 0
 codeOf NoWire = 12
-codeOf TooManyRuns = 13
+codeOf (TooManyRuns n) = 13
 
 abbrev pub lengthOf : Route → ℕ
 lengthOf (Wire n d k) = n
 lengthOf NoWire = 0
-lengthOf TooManyRuns = 0
+lengthOf (TooManyRuns n) = 0
 
 abbrev pub detourOf : Route → ℕ
 detourOf (Wire n d k) = d
 detourOf NoWire = 0
-detourOf TooManyRuns = 0
+detourOf (TooManyRuns n) = 0
 
 abbrev pub cornersOf : Route → ℕ
 cornersOf (Wire n d k) = k
 cornersOf NoWire = 0
-cornersOf TooManyRuns = 0
+cornersOf (TooManyRuns n) = 0
+
+-- how long a shortest wire is, whatever its run count; 0 where there is none
+abbrev pub shortestOf : Route → ℕ
+shortestOf (Wire n d k) = n
+shortestOf NoWire = 0
+shortestOf (TooManyRuns n) = n
 
 -- the values that go with the number: length, detour and corners, which are counted and stand in the arrays
 pub record Valued (o : Route) (xs ys : List ℕ) (n d : ℕ) (ps : List Node) : Type 0 where
@@ -63,6 +69,7 @@ pub record Coded (G : Grid) (s t : Node) (o : Route) (xs ys : List ℕ) : Type 0
   pub many : (codeOf o ≡ 13) ↔ ((w : List Dir) × Many G s t w)
   pub values : (w : List Dir) → Few G s t w → Valued o xs ys (length w) (detour t s w) (corners s w)
   pub silent : ¬ (codeOf o ≡ 0) → Valued o xs ys 0 0 []
+  pub shortest : (w : List Dir) → Answered G s t w → shortestOf o ≡ length w
 
 abbrev pub Answers : Grid → Node → Node → Routed → Type 0
 Answers G s t r = Coded G s t (r .route) (r .xs) (r .ys)
@@ -72,13 +79,13 @@ Answers G s t r = Coded G s t (r .route) (r .xs) (r .ys)
 unfoldable pub Found : Grid → Node → Node → Route → Type 0
 Found G s t (Wire n d k) = (w : List Dir) × Few G s t w × (n ≡ length w) × (d ≡ detour t s w) × (k ≡ length (corners s w))
 Found G s t NoWire = (w : List Dir) → ¬ (Legal G s t w)
-Found G s t TooManyRuns = (w : List Dir) × Many G s t w
+Found G s t (TooManyRuns n) = (w : List Dir) × Many G s t w × (n ≡ length w)
 
 -- the corners that are written: the wire's, or none
 unfoldable pub Written : Grid → Node → Node → Route → List Node → Type 0
 Written G s t (Wire n d k) ps = (w : List Dir) × Answered G s t w × (ps ≡ corners s w)
 Written G s t NoWire ps = ps ≡ []
-Written G s t TooManyRuns ps = ps ≡ []
+Written G s t (TooManyRuns n) ps = ps ≡ []
 
 pub record Routes (G : Grid) (s t : Node) (o : Route) (xs ys : List ℕ) : Type 0 where
   pub found : Found G s t o

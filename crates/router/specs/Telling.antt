@@ -28,8 +28,8 @@ module _ (m : Map) (d : List ℕ) (s t : At) (p : Pins) where
     counted : (v : List Dir) → Trail m d (crossing t) (crossing s) v → count ≡ length (corners (spot m (crossing s)) v)
     counted v l = omega (arith, tr .counted v l, ap length (from-start (spot m (crossing s)) v))
 
-    pub told-many : 25 < count → Tells m d s t p (silence TooManyRuns)
-    told-many h = record { none-told = λ z. absurd (far z); few-told = λ v l z k. absurd (omega (arith, counted v l)); many-told = λ v l z k. refl }
+    pub told-many : 25 < count → (n : ℕ) → n ≡ distance d (crossing s) → Tells m d s t p (silence (TooManyRuns n))
+    told-many h n f = record { none-told = λ z. absurd (far z); few-told = λ v l z k. absurd (omega (arith, counted v l)); many-told = λ v l z k. ap (λ n. silence (TooManyRuns n)) f }
 
     -- and those that are written
     wrote : (f : Node → ℕ) (ns : List ℕ) (v : List Dir) → Trail m d (crossing t) (crossing s) v → length (corners (spot m (crossing s)) v) ≤ 25

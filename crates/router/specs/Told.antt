@@ -49,7 +49,7 @@ pub record Tells (m : Map) (d : List ℕ) (s t : At) (p : Pins) (r : Routed) : T
   pub few-told : (v : List Dir) → Trail m d (crossing t) (crossing s) v → distance d (crossing s) < none → length (corners (spot m (crossing s)) v) ≤ most-corners
       → r ≡ telling (distance d (crossing s)) p (corners (spot m (crossing s)) v)
   pub many-told : (v : List Dir) → Trail m d (crossing t) (crossing s) v → distance d (crossing s) < none → most-corners < length (corners (spot m (crossing s)) v)
-      → r ≡ silence TooManyRuns
+      → r ≡ silence (TooManyRuns (distance d (crossing s)))
 
 -- ---- on the tracks
 

@@ -23,11 +23,11 @@ ghost use Rattle.trace.specs.Trail.{crossing};
 ghost use Rattle.router.specs.Route.{Answers, Asked};
 ghost use Rattle.router.specs.Told.{Tells, Ready, Stands, Tracked, detourFor, silence};
 
-// The wire's length, its detour and how many corners it has; or why there is none.
+// The wire's length, its detour and how many corners it has; or why there is none to tell, and how long one of too many runs is.
 pub enum Route {
     Wire(u32, u32, usize),
     NoWire,
-    TooManyRuns,
+    TooManyRuns(u32),
 }
 
 // The corners stand beside the answer. Places past the last hold 0, and all do where there is no wire to tell.
@@ -106,7 +106,7 @@ fn tell(
         0,
     );
     if count > 25 {
-        return silent(Route::TooManyRuns);
+        return silent(Route::TooManyRuns(long));
     }
     Routed {
         route: Route::Wire(long, detour(long, p), count),

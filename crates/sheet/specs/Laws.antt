@@ -1,10 +1,6 @@
 -- What follows from the definitions: nothing here has to be believed.
 
--- a number and a text have one spelling
-pub mod Decimal
-pub mod Spelling
 -- what the proofs of this crate lean on
-pub mod Written
 pub mod Lines
 pub mod Pieces
 -- the lent numbers do not matter, and which records show what

@@ -16,7 +16,7 @@ use Rattle.paper.specs.Padding.{boardOf, WellFormed}
 use Rattle.paper.specs.Answer.{Fed}
 use Rattle.paper.specs.History.{Call, FedAll}
 use Rattle.sheet.specs.declared.Printed.{Printed}
-use Rattle.sheet.specs.Text.{Part, number, byte, Spells, Puts}
+use Rattle.text.specs.Text.{Part, number, byte, Spells, Puts}
 
 -- ---- a line
 

@@ -4,11 +4,14 @@ use items::begin;
 use paper::Board;
 use paper::LEAST_SLICE;
 use paper::Size;
+use text::put_byte;
+use text::put_number;
+use text::put_word;
 ghost use mathlib.Core.Path.{_≡_};
 ghost use mathlib.Core.List.{[], _∷_};
 ghost use Prim.Native.Nat.{_+_, _-_, _*_, _≤_, _<_, min};
 ghost use lib.ListN.{length, take};
-ghost use Rattle.sheet.specs.Text.{Part.number, Part.byte, Writes};
+ghost use Rattle.text.specs.Text.{Part.number, Part.byte, Writes};
 ghost use Rattle.sheet.specs.Sheet.{cornersIn, wireIn, lineIn, lastLine, line-room, StepsIn};
 ghost use Rattle.paper.specs.Layout.{fresh};
 ghost use Rattle.paper.specs.Padding.{boardOf, WellFormed};
@@ -16,35 +19,6 @@ ghost use Rattle.paper.specs.Padding.{boardOf, WellFormed};
 // The room that a line is lent. A line has 332 bytes at most: a number of 5 digits, a code of 3, a length and a detour of 10, 25
 // corners of 11, a space before each but the first, and its end. The rest is for `put_number`, which asks for 10 places.
 pub const LINE_ROOM: usize = 336;
-
-// ---- numbers and bytes
-
-fn put_byte(buffer: &mut [u8], at: usize, b: u8) -> usize
-    requires { ⌜ at < length (now buffer) ⌝ }
-    ensures { λ r. ⌜ Writes (byte b ∷ []) (now (buffer .entry)) at (now (buffer .exit)) r ⌝ }
-{
-    buffer[at] = b;
-    at + 1
-}
-
-fn digit(n: u32) -> u8
-    requires { ⌜ n < 10 ⌝ }
-    ensures { λ r. ⌜ r ≡ 48 + n ⌝ }
-{
-    48 + n as u8
-}
-
-// The decimal digits of n, from `at` on; the place after them.
-fn put_number(buffer: &mut [u8], at: usize, n: u32) -> usize
-    requires { ⌜ at + 10 ≤ length (now buffer) ⌝ }
-    ensures { λ r. ⌜ Writes (number n ∷ []) (now (buffer .entry)) at (now (buffer .exit)) r ⌝ }
-{
-    if n < 10 {
-        return put_byte(buffer, at, digit(n));
-    }
-    let next = put_number(buffer, at, n / 10);
-    put_byte(buffer, next, digit(n % 10))
-}
 
 // ---- a line
 
@@ -116,17 +90,6 @@ fn put_line(
 }
 
 // ---- the last line
-
-// Three letters and the line's end.
-fn put_word(buffer: &mut [u8], a: u8, b: u8, c: u8) -> usize
-    requires { ⌜ 4 ≤ length (now buffer) ⌝ }
-    ensures { λ r. ⌜ Writes (byte a ∷ byte b ∷ byte c ∷ byte 10 ∷ []) (now (buffer .entry)) 0 (now (buffer .exit)) r ⌝ }
-{
-    let one = put_byte(buffer, 0, a);
-    let two = put_byte(buffer, one, b);
-    let three = put_byte(buffer, two, c);
-    put_byte(buffer, three, b'\n')
-}
 
 // The sheet's last line, from the buffer's start: how many bytes it has.
 pub fn put_last(buffer: &mut [u8], left: bool) -> usize

@@ -5,7 +5,6 @@ pub mod Tests
 -- the struct, place by place
 pub mod Places
 pub mod Whole
-pub mod Corners
 pub mod Fits
 pub mod Stands
 -- items together

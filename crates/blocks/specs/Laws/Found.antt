@@ -4,17 +4,18 @@ use Prim.Native.Nat.{ℕ, zero, suc, _<_}
 use native.Mathlib.Nat.{eq-or-lt-of-le}
 use native.Mathlib.Omega.{arith}
 use mathlib.Core.Path.{_≡_, refl, sym, ap, subst}
-use mathlib.Core.Bool.{true}
+use mathlib.Core.Bool.{Bool, true}
 use mathlib.Core.Logic.{inl, inr, ⊎-elim}
 use mathlib.Core.List.{List, [], _∷_}
 use lib.ListN.{length}
 use lib.Dec.{T}
 use Rattle.paper.specs.declared.Rect.{Rect}
-use Rattle.paper.specs.Grid.{Any, Hits, Blocked}
+use Rattle.paper.specs.Grid.{Area, Any, Hits, Blocked}
 use Rattle.paper.specs.Layout.{Thing, keep-out, wire, Sort, keep-outs, wires, sortOf, blocksOf, blocksTo, Layout}
-use Rattle.paper.specs.Answer.{Enters}
+use Rattle.paper.specs.Answer.{Bars}
 use Rattle.paper.specs.Laws.Lists.{any-imp, any-split}
 use Rattle.paper.specs.Laws.Among.{ltb-cases}
+use Rattle.paper.specs.Laws.Says.{Says, says-always, says-never}
 use Rattle.paper.specs.Laws.Apart.{blocked-left, blocked-right}
 use Rattle.blocks.specs.declared.Blocks.{Blocks}
 use Rattle.blocks.specs.declared.Place.{Place}
@@ -22,7 +23,7 @@ use Rattle.blocks.specs.declared.Look.{Look}
 use Rattle.blocks.specs.declared.Look.the-variants.{KeepOuts, Wires, Either}
 use Rattle.blocks.specs.declared.Found.{Found}
 use Rattle.blocks.specs.declared.Found.the-variants.{At, Nothing}
-use Rattle.blocks.specs.Flat.{placeArea, looked, Stops, FirstIs, isWire, Held, HeldOf}
+use Rattle.blocks.specs.Flat.{placeArea, looked, Stops, FirstIs, isFound, Hit, isWire, Held, HeldOf}
 use Rattle.paper.specs.Laws.Standing.{thingAt}
 use Rattle.blocks.specs.Laws.Held.{items-are, held-wire, held-blocks}
 
@@ -69,6 +70,18 @@ module _ (P : Thing → Type 0) where
   first-any (t ∷ ts) zero f = inl f
   first-any (t ∷ ts) (suc i) f = inr (first-any ts i (f .1))
 
+module _ (P Q : Thing → Type 0) (to : (t : Thing) → P t → Q t) (from : (t : Thing) → Q t → P t) where
+  first-imp : (ts : List Thing) (i : ℕ) → FirstOf P ts i → FirstOf Q ts i
+  unfolding FirstOf
+  first-imp [] i f = f
+  first-imp (t ∷ ts) zero f = to t f
+  first-imp (t ∷ ts) (suc i) f = (λ q. f .0 (from t q), first-imp ts i (f .1))
+
+  found-imp : (ts : List Thing) (r : Found) → FoundAmong P ts r → FoundAmong Q ts r
+  unfolding FoundAmong
+  found-imp ts (At i) f = first-imp ts i f
+  found-imp ts Nothing f = λ a. f (any-imp Q P from ts a)
+
 -- the thing counts and blocks the place
 unfoldable pub StopsAt : ℕ → Sort → Look → Place → Thing → Type 0
 StopsAt c to look p t = (looked look (isWire t) ≡ true) × Blocked (blocksOf c to t) (placeArea p)
@@ -99,7 +112,7 @@ module _ {b : Blocks} {c : ℕ} {to : Sort} {ts : List Thing} (held : Held b c t
 -- ---- whether something is blocked
 
 -- an item was found just if P
-abbrev pub Whether : Found → Type 0 → Type 0
+abbrev Whether : Found → Type 0 → Type 0
 Whether (At i) P = P
 Whether Nothing P = ¬ P
 
@@ -123,12 +136,12 @@ module _ (c : ℕ) (to : Sort) (p : Place) where
       ⊎-elim (λ q. inl (refl, q)) (λ q. inr (blocked-any ts q)) (any-split (λ b. Hits b (placeArea p)) (blocksOf c to t) (blocksTo c to ts) h)
 
 -- by any item: a pin's node, a unit edge
-pub scan-blocked : {b : Blocks} {c : ℕ} {to : Sort} {ts : List Thing} → Held b c to ts → (p : Place) (r : Found) → FirstIs b Either p r
+scan-blocked : {b : Blocks} {c : ℕ} {to : Sort} {ts : List Thing} → Held b c to ts → (p : Place) (r : Found) → FirstIs b Either p r
     → Whether r (Blocked (blocksTo c to ts) (placeArea p))
 scan-blocked {c} {to} {ts} held p r f =
     whether-any (StopsAt c to Either p) _ ts r (any-blocked c to p ts) (blocked-any c to p ts) (scan-item held Either p r f)
 
--- ---- codes 7 and 8
+-- ---- whether something of a sort blocks it
 
 abbrev pub lookFor : Sort → Look
 lookFor keep-outs = KeepOuts
@@ -147,11 +160,33 @@ own-sort : (t : Thing) → looked (lookFor (sortOf t)) (isWire t) ≡ true
 own-sort (keep-out i r) = refl
 own-sort (wire i ps) = refl
 
-pub scan-enters : {b : Blocks} (l : Layout) → HeldOf b keep-outs l → (q : Rect) (s : Sort) (r : Found)
-    → FirstIs b (lookFor s) (rectPlace q) r → Whether r (Enters l q s)
-unfolding Enters StopsAt
-scan-enters l held q s r f =
-    whether-any (StopsAt (l .size .clearance) keep-outs (lookFor s) (rectPlace q)) _ (l .items) r
-    (any-imp _ _ (λ t h. (looked-sort s t (h .0), h .1)) (l .items))
-    (any-imp _ _ (λ t h. (subst (λ s. looked (lookFor s) (isWire t) ≡ true) (h .0) (own-sort t), h .1)) (l .items))
-    (scan-item held (lookFor s) (rectPlace q) r f)
+-- by an item of the sort, whatever the place
+scan-sort : {b : Blocks} (l : Layout) (to : Sort) → HeldOf b to l → (p : Place) (s : Sort) (r : Found) → FirstIs b (lookFor s) p r
+    → FoundAmong (Bars l to s (placeArea p)) (l .items) r
+unfolding Bars StopsAt
+scan-sort l to held p s r f =
+    found-imp (StopsAt (l .size .clearance) to (lookFor s) p) _ (λ t h. (looked-sort s t (h .0), h .1))
+    (λ t h. (subst (λ s. looked (lookFor s) (isWire t) ≡ true) (h .0) (own-sort t), h .1)) (l .items) r (scan-item held (lookFor s) p r f)
+
+scan-any : {b : Blocks} (l : Layout) (to : Sort) → HeldOf b to l → (p : Place) (s : Sort) (r : Found) → FirstIs b (lookFor s) p r
+    → Whether r (Any (Bars l to s (placeArea p)) (l .items))
+scan-any l to held p s r f = whether-any (Bars l to s (placeArea p)) _ (l .items) r (λ a. a) (λ a. a) (scan-sort l to held p s r f)
+
+-- ---- the same of `hit`
+
+says-whether : (f : Found) (P : Type 0) → Whether f P → Says (isFound f) P
+says-whether (At i) P h = says-always h
+says-whether Nothing P h = says-never h
+
+hit-says : (b : Blocks) (look : Look) (p : Place) (P : Type 0) (r : Bool) → ((f : Found) → FirstIs b look p f → Whether f P) → Hit b look p r → Says r P
+unfolding Hit
+hit-says b look p P r each h = subst (λ r. Says r P) (sym (h .2)) (says-whether (h .0) P (each (h .0) (h .1)))
+
+pub hit-blocked : {b : Blocks} {c : ℕ} {to : Sort} {ts : List Thing} → Held b c to ts → (p : Place) (r : Bool) → Hit b Either p r
+    → Says r (Blocked (blocksTo c to ts) (placeArea p))
+hit-blocked held p r h = hit-says _ Either p _ r (scan-blocked held p) h
+
+-- of the area that the place is
+pub hit-any : {b : Blocks} (l : Layout) (to : Sort) → HeldOf b to l → (p : Place) (a : Area) → placeArea p ≡ a → (s : Sort) (r : Bool)
+    → Hit b (lookFor s) p r → Says r (Any (Bars l to s a) (l .items))
+hit-any l to held p a e s r h = subst (λ a. Says r (Any (Bars l to s a) (l .items))) e (hit-says _ (lookFor s) p _ r (scan-any l to held p s) h)

@@ -14,14 +14,15 @@ use Rattle.paper.specs.Grid.{Node, All, Any, Blocked, node}
 use Rattle.paper.specs.Layout.{Thing, idOf, wires, blocksOf, blocksTo, without, Has, Layout, fresh}
 use Rattle.paper.specs.Padding.{boardOf, Holds, WellFormed}
 use Rattle.paper.specs.Reading.{Reads}
-use Rattle.paper.specs.Answer.{Gives, source, OnBlock, checks, flat, written, Replies, Fed}
+use Rattle.paper.specs.Answer.{verdict, source, OnBlock, checks, flat, written, Replies, Fed}
 use Rattle.paper.specs.History.{start, Past, FedAll, Story, SameItems, Alike}
 use Rattle.paper.specs.TableP.{Row, asking, layoutIn, replyIn, Stands}
 use Rattle.paper.specs.Laws.Apart.{blocked-left, blocked-right}
 use Rattle.paper.specs.Laws.Among.{without-nil, without-cases}
 use Rattle.paper.specs.Laws.Back.{layoutOf, one-layout}
 use Rattle.paper.specs.Laws.Read.{one-record}
-use Rattle.paper.specs.Laws.Next.{Spared, spares}
+use Rattle.paper.specs.Laws.Checks.{Spared}
+use Rattle.paper.specs.Laws.Next.{spares}
 use Rattle.paper.specs.Laws.One.{one-reply}
 use Rattle.paper.specs.Laws.Story.{history}
 use Rattle.paper.specs.Laws.Alike.{answer-alike}
@@ -134,4 +135,4 @@ blocked-refused b bytes s s′ r l p (inr f) k rd h z =
     let m : f .0 ≡ l = one-layout b (f .0) l (f .2) k in
     let e : f .1 ≡ Ask p = one-record bytes (f .1) (Ask p) (f .3) rd in
     let g : Replies l (Ask p) s s′ r = subst₂ (λ l rec. Replies l rec s s′ r) m e (f .4) in
-    spares l (Ask p) (length s) (subst (λ k. Gives (checks l (Ask p) (length s)) k) z (g .code)) 11 (inl h)
+    spares l (Ask p) (length s) (verdict r) z (g .code) 11 (inl h)

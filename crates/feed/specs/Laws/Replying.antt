@@ -19,11 +19,12 @@ use Rattle.paper.specs.Grid.{Any}
 use Rattle.paper.specs.Layout.{Thing, keep-out, keep-outs, wires, idOf, areas, blockCount, Has, Used, RectFits, Turn, undo, Layout, InRange, empty, Sound, Laid, Undoes}
 use Rattle.paper.specs.Padding.{itemOf, boardOf, Holds, WellFormed}
 use Rattle.paper.specs.Reading.{Reads}
-use Rattle.paper.specs.Answer.{Gives, BeforeBounds, Enters, TooManyBlocks, checks, addTo, takeFrom, Outcome, quiet, Does, flat, Tells, Replies, Fed}
+use Rattle.paper.specs.Answer.{plain, Gives, BeforeBounds, Enters, TooManyBlocks, checks, addTo, takeFrom, Outcome, quiet, Does, flat, Tells, Replies, Fed}
 use Rattle.paper.specs.Laws.Back.{thingOf, layoutOf, well-formed}
 use Rattle.paper.specs.Laws.Feeds.{refusing}
 use Rattle.paper.specs.Laws.Kept.{replied}
-use Rattle.paper.specs.Laws.Next.{Spared, spares, laid}
+use Rattle.paper.specs.Laws.Checks.{Spared}
+use Rattle.paper.specs.Laws.Next.{spares, laid}
 use Rattle.paper.specs.Laws.Shape.{items-few}
 use Rattle.paper.specs.Laws.Standing.{Standing, thingAt, well-standing, kept-is}
 use Rattle.items.specs.declared.Found.the-variants.{At, Free}
@@ -43,7 +44,7 @@ some-kept n cs e z = omega arith
 -- ---- in general
 
 module _ (b : Board) (w : WellFormed b) (rec : Record) where
-  pub refused : (s : List ℕ) (k : ℕ) → 1 ≤ k → Gives (checks (layoutOf b) rec (length s)) k → Replies (layoutOf b) rec s s (refusing k b)
+  pub refused : (s : List ℕ) (k : ℕ) → 1 ≤ k → Gives (checks (layoutOf b) rec (length s)) (plain k) → Replies (layoutOf b) rec s s (refusing k b)
   unfolding flat
   refused s k some g = record {
     code = g;
@@ -51,16 +52,16 @@ module _ (b : Board) (w : WellFormed b) (rec : Record) where
     accepted = λ z. absurd (omega arith);
   }
 
-  pub accepted : (s s′ : List ℕ) (o : Outcome) (r : Reply) → r .code ≡ 0 → Gives (checks (layoutOf b) rec (length s)) 0 → Does (layoutOf b) rec o
+  pub accepted : (s s′ : List ℕ) (o : Outcome) (r : Reply) → r .code ≡ 0 → Gives (checks (layoutOf b) rec (length s)) (plain 0) → Does (layoutOf b) rec o
       → Tells (o .long) (o .away) (o .turned) (boardOf (o .layout)) s s′ r → Replies (layoutOf b) rec s s′ r
   accepted s s′ o r z g d t = record { code = rw z g; refused = λ n. absurd (n z); accepted = λ _. (o, d, t) }
 
   -- whatever slice is lent
-  pub quiet-refused : (k : ℕ) → 1 ≤ k → ((n : ℕ) → Gives (checks (layoutOf b) rec n) k) → Quietly (layoutOf b) rec (refusing k b)
+  pub quiet-refused : (k : ℕ) → 1 ≤ k → ((n : ℕ) → Gives (checks (layoutOf b) rec n) (plain k)) → Quietly (layoutOf b) rec (refusing k b)
   unfolding Quietly
   quiet-refused k some g s = refused s k some (g (length s))
 
-  pub quiet-accepted : (m : Layout) → ((n : ℕ) → Gives (checks (layoutOf b) rec n) 0) → Does (layoutOf b) rec (quiet m)
+  pub quiet-accepted : (m : Layout) → ((n : ℕ) → Gives (checks (layoutOf b) rec n) (plain 0)) → Does (layoutOf b) rec (quiet m)
       → Quietly (layoutOf b) rec (refusing 0 (boardOf m))
   unfolding Quietly flat
   quiet-accepted m g d s =
@@ -105,7 +106,7 @@ module _ (b : Board) (w : WellFormed b) where
       → Standing b × Whole m × Room (layoutOf b)
   unfolding KeepOutCode Spared checks blockCount areas
   keep-out-asks i r m g e =
-      let h = spares (layoutOf b) (KeepOut i r) 0 (g 0) in
+      let h = spares (layoutOf b) (KeepOut i r) 0 (plain 0) refl (g 0) in
       let few : ¬ (most-blocks < 1 + blockCount (layoutOf b .items)) = h 14 in
       (well-standing b w, rw e (unfold thingOf itemOf in refl), omega (arith, items-few-now (h 2)))
 
@@ -127,7 +128,7 @@ module _ (b : Board) (w : WellFormed b) where
       quiet-accepted b w (TakeOut i) (takeFrom (layoutOf b) (thingAt (layoutOf b .items) at))
       (λ k. inr (n, inr (used, refl))) (thingAt (layoutOf b .items) at, has, p .1, refl)
 
-  pub no-bounds-yet : (rec : Record) → ((n : ℕ) → Gives (checks (layoutOf b) rec n) 2) → Quietly (layoutOf b) rec (refusing 2 b)
+  pub no-bounds-yet : (rec : Record) → ((n : ℕ) → Gives (checks (layoutOf b) rec n) (plain 2)) → Quietly (layoutOf b) rec (refusing 2 b)
   no-bounds-yet rec g = quiet-refused b w rec 2 (omega arith) g
 
   pub take-none : (i : Id) → ¬ (BeforeBounds (layoutOf b)) → ¬ (Used (layoutOf b .items) (i .number)) → Quietly (layoutOf b) (TakeOut i) (refusing 5 b)

@@ -10,18 +10,12 @@ use lib.Seq.{take-suc, drop-cons, set-at, append-snoc, length-take-le}
 use Rattle.paper.specs.Grid.{Node}
 use Rattle.paper.specs.Padding.{filled}
 use Rattle.paper.specs.Answer.{flat, written}
-use Rattle.paper.specs.Laws.Back.{nodes}
+use Rattle.paper.specs.Laws.Back.{nodes, length-nodes}
 
 -- ---- corners, read from two arrays
 
 abbrev origin : Node
 origin = record { x = 0; y = 0 }
-
-pub length-nodes : (xs ys : List ℕ) → length xs ≡ length ys → length (nodes xs ys) ≡ length xs
-unfolding nodes
-length-nodes [] ys e = refl
-length-nodes (x ∷ xs) [] e = absurd (omega arith)
-length-nodes (x ∷ xs) (y ∷ ys) e = ap suc (length-nodes xs ys (omega arith))
 
 node-at : (xs ys : List ℕ) (k : ℕ) → length xs ≡ length ys → k < length xs
     → getD (nodes xs ys) k origin ≡ record { x = getD xs k 0; y = getD ys k 0 }

@@ -18,11 +18,11 @@ use Rattle.paper.specs.Grid.{Node, Dir}
 use Rattle.paper.specs.Wire.{Answered, runs}
 use Rattle.paper.specs.Layout.{wire, areas, blockCount, gridOf, Used, Layout}
 use Rattle.paper.specs.Padding.{filled, itemOf, boardOf, WellFormed}
-use Rattle.paper.specs.Answer.{Check, _if_, Gives, source, target, BeforeBounds, TheWire, way, TooManyRuns, TooManyBlocks, checks, pinChecks, addTo, told, Does, written, Tells, Replies}
+use Rattle.paper.specs.Answer.{plain, Check, _if_, Gives, source, target, BeforeBounds, TheWire, way, TooManyRuns, TooManyBlocks, checks, pinChecks, addTo, told, Does, written, Tells, Replies}
 use Rattle.paper.specs.Laws.Back.{nodes, thingOf, layoutOf, well-formed, ReadsBack, wire-back}
-use Rattle.paper.specs.Laws.Feeds.{gives-first, gives-then, refusing}
+use Rattle.paper.specs.Laws.Checks.{Coded, Clear, clear-of, gives-first, gives-then}
+use Rattle.paper.specs.Laws.Feeds.{refusing}
 use Rattle.paper.specs.Laws.Least.{one-answer}
-use Rattle.paper.specs.Laws.Next.{Coded}
 use Rattle.paper.specs.Laws.Standing.{well-standing}
 use Rattle.items.specs.Items.{Whole}
 use Rattle.feed.specs.declared.Wired.{Wired}
@@ -33,28 +33,21 @@ use Rattle.feed.specs.Laws.Slices.{nodes-are}
 
 -- ---- what code 0 says
 
-pub lent-ok : (l : Layout) (n : ℕ) → Gives (lentChecks l n) 0 → (¬ (BeforeBounds l)) × (least-slice ≤ n)
-unfolding Gives
-lent-ok l n (inl g) = absurd (omega (arith, g .1))
-lent-ok l n (inr (b, inl g)) = absurd (omega (arith, g .1))
-lent-ok l n (inr (b, inr g)) = let h : ¬ (n < least-slice) = g .0 in (b, omega arith)
-
-pub pins-ok : (l : Layout) (p : Pins) → Gives (pinChecks l p) 0 → (¬ (source p ≡ target p)) × (¬ (TheWire l p (TooManyRuns p)))
-unfolding Gives
-pins-ok l p (inl g) = absurd (omega (arith, g .1))
-pins-ok l p (inr (a, inl g)) = absurd (omega (arith, g .1))
-pins-ok l p (inr (a, inr (b, inl g))) = absurd (omega (arith, g .1))
-pins-ok l p (inr (a, inr (b, inr (c, inl g)))) = absurd (omega (arith, g .1))
-pins-ok l p (inr (a, inr (b, inr (c, inr (d, inl g))))) = absurd (omega (arith, g .1))
-pins-ok l p (inr (a, inr (b, inr (c, inr (d, inr g))))) = (b, g .0)
-
-lent-coded : (l : Layout) (n : ℕ) → Coded (lentChecks l n)
+lent-clear : (l : Layout) (n : ℕ) → Gives (lentChecks l n) (plain 0) → Clear (lentChecks l n)
 unfolding Coded
-lent-coded l n = omega arith
+lent-clear l n g = clear-of (lentChecks l n) (plain 0) refl (omega arith) g
 
-pins-coded : (l : Layout) (p : Pins) → Coded (pinChecks l p)
+pins-clear : (l : Layout) (p : Pins) → Gives (pinChecks l p) (plain 0) → Clear (pinChecks l p)
 unfolding Coded
-pins-coded l p = omega arith
+pins-clear l p g = clear-of (pinChecks l p) (plain 0) refl (omega arith) g
+
+pub lent-ok : (l : Layout) (n : ℕ) → Gives (lentChecks l n) (plain 0) → (¬ (BeforeBounds l)) × (least-slice ≤ n)
+unfolding Clear
+lent-ok l n g = let c = lent-clear l n g in let h : ¬ (n < least-slice) = c .1 .0 in (c .0, omega arith)
+
+pub pins-ok : (l : Layout) (p : Pins) → Gives (pinChecks l p) (plain 0) → (¬ (source p ≡ target p)) × (¬ (TheWire l p (TooManyRuns p)))
+unfolding Clear
+pins-ok l p g = let c = pins-clear l p g in (c .1 .0, c .1 .1 .1 .1 .0)
 
 -- ---- the wire that is told
 
@@ -68,8 +61,8 @@ module _ (l : Layout) (p : Pins) (w : Wired) (h : Wires l p w) (z : w .code ≡ 
   abbrev spelled : Spelled p w v
   spelled = h .wire z .2
 
-  gives : Gives (pinChecks l p) 0
-  gives = subst (Gives (pinChecks l p)) z (h .code)
+  pub gives : Gives (pinChecks l p) (plain 0)
+  gives = subst (λ k. Gives (pinChecks l p) (plain k)) z (h .code)
 
   pub corners-two : 2 ≤ w .corners
   corners-two = omega (arith, spelled .corners-are, two-corners _ (source p) (target p) v (answered .legal) (pins-ok l p gives .0))
@@ -137,14 +130,14 @@ module _ (b : Board) (wf : WellFormed b) (p : Pins) (s : List ℕ) where
 
   -- ---- an ask
 
-  pub ask-lent : (k : ℕ) → ¬ (k ≡ 0) → Gives (lentChecks (layoutOf b) (length s)) k → Replies (layoutOf b) (Ask p) s s (refusing k b)
-  ask-lent k n g = refused b wf (Ask p) s k (omega arith) (unfold checks in gives-first (lentChecks (layoutOf b) (length s)) (pinChecks (layoutOf b) p) k n g)
+  pub ask-lent : (k : ℕ) → ¬ (k ≡ 0) → Gives (lentChecks (layoutOf b) (length s)) (plain k) → Replies (layoutOf b) (Ask p) s s (refusing k b)
+  ask-lent k n g = refused b wf (Ask p) s k (omega arith) (unfold checks in gives-first (lentChecks (layoutOf b) (length s)) (pinChecks (layoutOf b) p) (plain k) n g)
 
-  ask-gives : (k : ℕ) → Gives (lentChecks (layoutOf b) (length s)) 0 → Gives (pinChecks (layoutOf b) p) k → Gives (checks (layoutOf b) (Ask p) (length s)) k
+  ask-gives : (k : ℕ) → Gives (lentChecks (layoutOf b) (length s)) (plain 0) → Gives (pinChecks (layoutOf b) p) (plain k) → Gives (checks (layoutOf b) (Ask p) (length s)) (plain k)
   unfolding checks
-  ask-gives k g h = gives-then (lentChecks (layoutOf b) (length s)) (pinChecks (layoutOf b) p) k (lent-coded (layoutOf b) (length s)) g h
+  ask-gives k g h = gives-then (lentChecks (layoutOf b) (length s)) (pinChecks (layoutOf b) p) (plain k) (lent-clear (layoutOf b) (length s) g) h
 
-  pub ask-refused : (w : Wired) → Gives (lentChecks (layoutOf b) (length s)) 0 → Wires (layoutOf b) p w → ¬ (w .code ≡ 0)
+  pub ask-refused : (w : Wired) → Gives (lentChecks (layoutOf b) (length s)) (plain 0) → Wires (layoutOf b) p w → ¬ (w .code ≡ 0)
       → Replies (layoutOf b) (Ask p) s s (refusing (w .code) b)
   ask-refused w g h n = refused b wf (Ask p) s (w .code) (omega arith) (ask-gives (w .code) g (h .code))
 
@@ -160,11 +153,11 @@ module _ (b : Board) (wf : WellFormed b) (p : Pins) (s : List ℕ) where
   }
 
   pub ask-told : (w : Wired) (s′ : List ℕ) (rec : Record) (r : Reply) → rec ≡ Ask p → r ≡ wiredReply b w
-      → Gives (lentChecks (layoutOf b) (length s)) 0 → Wires (layoutOf b) p w → w .code ≡ 0
+      → Gives (lentChecks (layoutOf b) (length s)) (plain 0) → Wires (layoutOf b) p w → w .code ≡ 0
       → s′ ≡ written (take (w .corners) (nodes (w .xs) (w .ys))) s → Replies (layoutOf b) rec s s′ r
   unfolding Does
   ask-told w s′ rec r e e′ g h z f =
-      subst₂ (λ rec r. Replies (layoutOf b) rec s s′ r) (sym e) (sym e′) (accepted b wf (Ask p) s s′ (told p (h .wire z .0) (layoutOf b)) (wiredReply b w) refl (ask-gives 0 g (subst (Gives (pinChecks (layoutOf b) p)) z (h .code)))
+      subst₂ (λ rec r. Replies (layoutOf b) rec s s′ r) (sym e) (sym e′) (accepted b wf (Ask p) s s′ (told p (h .wire z .0) (layoutOf b)) (wiredReply b w) refl (ask-gives 0 g (gives (layoutOf b) p w h z))
       (h .wire z .0, h .wire z .1, refl) (tells w h z s′ (layoutOf b) b (well-formed b wf .same) f))
 
   -- ---- a lay
@@ -177,29 +170,29 @@ module _ (b : Board) (wf : WellFormed b) (p : Pins) (s : List ℕ) where
     rest : List Check
     rest = (4 if Used (layoutOf b .items) (i .number)) ∷ pinChecks (layoutOf b) p ++ room ∷ []
 
-    pub lay-lent : (k : ℕ) → ¬ (k ≡ 0) → Gives (lentChecks (layoutOf b) (length s)) k → Replies (layoutOf b) (Lay i p) s s (refusing k b)
+    pub lay-lent : (k : ℕ) → ¬ (k ≡ 0) → Gives (lentChecks (layoutOf b) (length s)) (plain k) → Replies (layoutOf b) (Lay i p) s s (refusing k b)
     unfolding checks room rest
     lay-lent k n g =
         refused b wf (Lay i p) s k (omega arith)
-        (gives-first (lentChecks (layoutOf b) (length s)) rest k n g)
+        (gives-first (lentChecks (layoutOf b) (length s)) rest (plain k) n g)
 
-    pub lay-used : Gives (lentChecks (layoutOf b) (length s)) 0 → Used (layoutOf b .items) (i .number) → Replies (layoutOf b) (Lay i p) s s (refusing 4 b)
+    pub lay-used : Gives (lentChecks (layoutOf b) (length s)) (plain 0) → Used (layoutOf b .items) (i .number) → Replies (layoutOf b) (Lay i p) s s (refusing 4 b)
     unfolding checks Gives room rest
     lay-used g u =
         refused b wf (Lay i p) s 4 (omega arith)
-        (gives-then (lentChecks (layoutOf b) (length s)) rest 4 (lent-coded (layoutOf b) (length s)) g (inl (u, refl)))
+        (gives-then (lentChecks (layoutOf b) (length s)) rest (plain 4) (lent-clear (layoutOf b) (length s) g) (inl (u, refl)))
 
-    lay-gives : (k : ℕ) → Gives (lentChecks (layoutOf b) (length s)) 0 → ¬ (Used (layoutOf b .items) (i .number))
-        → Gives (pinChecks (layoutOf b) p ++ room ∷ []) k → Gives (checks (layoutOf b) (Lay i p) (length s)) k
+    lay-gives : (k : ℕ) → Gives (lentChecks (layoutOf b) (length s)) (plain 0) → ¬ (Used (layoutOf b .items) (i .number))
+        → Gives (pinChecks (layoutOf b) p ++ room ∷ []) (plain k) → Gives (checks (layoutOf b) (Lay i p) (length s)) (plain k)
     unfolding checks Gives room rest
-    lay-gives k g u h = gives-then (lentChecks (layoutOf b) (length s)) rest k (lent-coded (layoutOf b) (length s)) g (inr (u, h))
+    lay-gives k g u h = gives-then (lentChecks (layoutOf b) (length s)) rest (plain k) (lent-clear (layoutOf b) (length s) g) (inr (u, h))
 
-    pub lay-refused : (w : Wired) → Gives (lentChecks (layoutOf b) (length s)) 0 → ¬ (Used (layoutOf b .items) (i .number))
+    pub lay-refused : (w : Wired) → Gives (lentChecks (layoutOf b) (length s)) (plain 0) → ¬ (Used (layoutOf b .items) (i .number))
         → Wires (layoutOf b) p w → ¬ (w .code ≡ 0) → Replies (layoutOf b) (Lay i p) s s (refusing (w .code) b)
     lay-refused w g u h n =
-        refused b wf (Lay i p) s (w .code) (omega arith) (lay-gives (w .code) g u (gives-first (pinChecks (layoutOf b) p) (room ∷ []) (w .code) n (h .code)))
+        refused b wf (Lay i p) s (w .code) (omega arith) (lay-gives (w .code) g u (gives-first (pinChecks (layoutOf b) p) (room ∷ []) (plain (w .code)) n (h .code)))
 
-    pub lay-asks : (w : Wired) → Gives (lentChecks (layoutOf b) (length s)) 0 → Wires (layoutOf b) p w → w .code ≡ 0 → Laying b i w s
+    pub lay-asks : (w : Wired) → Gives (lentChecks (layoutOf b) (length s)) (plain 0) → Wires (layoutOf b) p w → w .code ≡ 0 → Laying b i w s
     lay-asks w g h z = record {
       stands = well-standing b wf;
       lent = lent-ok (layoutOf b) (length s) g .1;
@@ -211,23 +204,22 @@ module _ (b : Board) (wf : WellFormed b) (p : Pins) (s : List ℕ) where
       whole = whole (layoutOf b) p w h z (i .number);
     }
 
-    laid : (w : Wired) (s′ : List ℕ) (r : Reply) → Gives (lentChecks (layoutOf b) (length s)) 0 → ¬ (Used (layoutOf b .items) (i .number))
+    laid : (w : Wired) (s′ : List ℕ) (r : Reply) → Gives (lentChecks (layoutOf b) (length s)) (plain 0) → ¬ (Used (layoutOf b .items) (i .number))
         → Wires (layoutOf b) p w → w .code ≡ 0 → Lays b i w s s′ r → Replies (layoutOf b) (Lay i p) s s′ r
     unfolding Lays Gives Does room
     laid w s′ r g u h z (inl (many, e, f)) =
         subst₂ (λ s′ r. Replies (layoutOf b) (Lay i p) s s′ r) (sym f) (sym e)
-        (refused b wf (Lay i p) s 14 (omega arith) (lay-gives 14 g u (gives-then (pinChecks (layoutOf b) p) (room ∷ []) 14 (pins-coded (layoutOf b) p)
-        (subst (Gives (pinChecks (layoutOf b) p)) z (h .code))
+        (refused b wf (Lay i p) s 14 (omega arith) (lay-gives 14 g u (gives-then (pinChecks (layoutOf b) p) (room ∷ []) (plain 14) (pins-clear (layoutOf b) p (gives (layoutOf b) p w h z))
         (inl ((h .wire z .0, h .wire z .1, omega (arith, many, blocks-are (layoutOf b) p w h z (i .number))), refl)))))
     laid w s′ r g u h z (inr (few, e, f)) =
         subst (Replies (layoutOf b) (Lay i p) s s′) (sym e)
         (accepted b wf (Lay i p) s s′ (told p (h .wire z .0) (addTo (layoutOf b) (wire (i .number) (way p (h .wire z .0))))) _ refl
-        (lay-gives 0 g u (gives-then (pinChecks (layoutOf b) p) (room ∷ []) 0 (pins-coded (layoutOf b) p) (subst (Gives (pinChecks (layoutOf b) p)) z (h .code))
+        (lay-gives 0 g u (gives-then (pinChecks (layoutOf b) p) (room ∷ []) (plain 0) (pins-clear (layoutOf b) p (gives (layoutOf b) p w h z))
         (inr (λ t. omega (arith, few, blocks-are (layoutOf b) p w h z (i .number), one (layoutOf b) p w h z _ t), refl))))
         (h .wire z .0, h .wire z .1, refl)
         (tells w h z s′ (addTo (layoutOf b) (wire (i .number) (way p (h .wire z .0)))) _
         (ap (λ t. boardOf (addTo (layoutOf b) t)) (thing-is (layoutOf b) p w h z (i .number))) f))
 
-    pub lay-done : (w : Wired) (s′ : List ℕ) (rec : Record) (r : Reply) → rec ≡ Lay i p → Gives (lentChecks (layoutOf b) (length s)) 0 → ¬ (Used (layoutOf b .items) (i .number))
+    pub lay-done : (w : Wired) (s′ : List ℕ) (rec : Record) (r : Reply) → rec ≡ Lay i p → Gives (lentChecks (layoutOf b) (length s)) (plain 0) → ¬ (Used (layoutOf b .items) (i .number))
         → Wires (layoutOf b) p w → w .code ≡ 0 → Lays b i w s s′ r → Replies (layoutOf b) rec s s′ r
     lay-done w s′ rec r q g u h z d = subst (λ rec. Replies (layoutOf b) rec s s′ r) (sym q) (laid w s′ r g u h z d)

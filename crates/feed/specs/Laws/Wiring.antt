@@ -12,43 +12,33 @@ use Rattle.paper.specs.declared.Pins.{Pins}
 use Rattle.paper.specs.Limits.{most-blocks, most-runs, most-corners}
 use Rattle.paper.specs.Grid.{Node, Dir, E, N, W, S, Grid, Blocked, node, step, rank}
 use Rattle.paper.specs.Wire.{Legal, Answered, corners, turns, runs}
-use Rattle.paper.specs.Layout.{wire, Sort, keep-outs, wires, areas, blocksTo, blockCount, gridOf, OnBoard, Layout, InRange}
+use Rattle.paper.specs.Layout.{wire, Sort, keep-outs, wires, rectangle, areas, blocksTo, blockCount, gridOf, OnBoard, Layout, InRange}
 use Rattle.paper.specs.Padding.{filled}
-use Rattle.paper.specs.Answer.{Check, _if_, _unless_, Gives, source, target, Enters, OnBlock, NoWire, TheWire, way, TooManyRuns, TooManyBlocks, pinChecks}
+use Rattle.paper.specs.Answer.{plain, Check, _if_, _unless_, Gives, source, target, Enters, OnBlock, NoWire, TheWire, way, TooManyRuns, TooManyBlocks, pinChecks}
 use Rattle.paper.specs.Laws.Back.{length-runs}
-use Rattle.paper.specs.Laws.Feeds.{gives-first, gives-then, the-wire-says}
+use Rattle.paper.specs.Laws.Checks.{Coded, Clear, clear-of, gives-first, gives-then}
 use Rattle.paper.specs.Laws.Least.{one-answer}
-use Rattle.paper.specs.Laws.Next.{Coded}
-use Rattle.paper.specs.Laws.Says.{Says, says-always, says-never}
+use Rattle.paper.specs.Laws.Says.{Says}
 use Rattle.blocks.specs.declared.Blocks.{Blocks}
 use Rattle.blocks.specs.declared.Look.the-variants.{Either}
-use Rattle.blocks.specs.declared.Found.{Found}
-use Rattle.blocks.specs.declared.Found.the-variants.{At, Nothing}
-use Rattle.blocks.specs.Flat.{flat, Fits, HeldOf}
+use Rattle.blocks.specs.Flat.{flat, Fits, Hit, HeldOf}
 use Rattle.blocks.specs.Laws.Held.{held-fits, flat-held}
-use Rattle.blocks.specs.Laws.Found.{Whether, lookFor, rectPlace, scan-enters, scan-blocked}
+use Rattle.blocks.specs.Laws.Found.{lookFor, rectPlace, hit-any, hit-blocked}
 use Rattle.router.specs.declared.Route.{Route}
 use Rattle.router.specs.declared.Route.the-variants.{Wire, NoWire as NoRoute, TooManyRuns as ManyRuns}
 use Rattle.router.specs.declared.Routed.{Routed}
 use Rattle.router.specs.Route.{Found as Told, Written, Answers, Asked}
 use Rattle.router.specs.One.{routes-of}
 use Rattle.feed.specs.declared.Wired.{Wired}
-use Rattle.feed.specs.Feeding.{isFound, Hit, hereIs, startChecks, noWire, wiredBy, wiredOf, Spelled, Wires}
+use Rattle.feed.specs.Feeding.{hereIs, startChecks, noWire, wiredBy, wiredOf, Spelled, Wires}
 
 -- ---- what the scan says
 
-says-whether : (f : Found) (P : Type 0) → Whether f P → Says (isFound f) P
-says-whether (At i) P h = says-always h
-says-whether Nothing P h = says-never h
-
 pub hit-enters : (b : Blocks) (l : Layout) → HeldOf b keep-outs l → (q : Rect) (s : Sort) (r : Bool) → Hit b (lookFor s) (rectPlace q) r → Says r (Enters l q s)
-unfolding Hit
-hit-enters b l held q s r h = subst (λ r. Says r (Enters l q s)) (sym (h .2)) (says-whether (h .0) (Enters l q s) (scan-enters l held q s (h .0) (h .1)))
+hit-enters b l held q s r h = hit-any l keep-outs held (rectPlace q) (rectangle q) refl s r h
 
-pub hit-blocked : (b : Blocks) (l : Layout) → HeldOf b wires l → (p : Node) (r : Bool) → Hit b Either (hereIs (p .x) (p .y)) r → Says r (OnBlock l p)
-unfolding Hit
-hit-blocked b l held p r h =
-    subst (λ r. Says r (OnBlock l p)) (sym (h .2)) (says-whether (h .0) (OnBlock l p) (scan-blocked held (hereIs (p .x) (p .y)) (h .0) (h .1)))
+pub hit-pin : (b : Blocks) (l : Layout) → HeldOf b wires l → (p : Node) (r : Bool) → Hit b Either (hereIs (p .x) (p .y)) r → Says r (OnBlock l p)
+hit-pin b l held p r h = hit-blocked held (hereIs (p .x) (p .y)) r h
 
 -- ---- before a wire is looked for
 
@@ -61,14 +51,14 @@ pub record Started (l : Layout) (p : Pins) : Type 0 where
   pub two : ¬ (source p ≡ target p)
   pub clear : (¬ (OnBlock l (source p))) × (¬ (OnBlock l (target p)))
 
-pub started : (l : Layout) (p : Pins) → Gives (startChecks l p) 0 → Started l p
-unfolding Gives
-started l p (inl g) = absurd (omega (arith, g .1))
-started l p (inr (on, inl g)) = absurd (omega (arith, g .1))
-started l p (inr (on, inr (two, inl g))) = absurd (omega (arith, g .1))
-started l p (inr (on, inr (two, inr g))) = record { on = on; two = two; clear = (λ h. g .0 (inl h), λ h. g .0 (inr h)) }
+start-clear : (l : Layout) (p : Pins) → Gives (startChecks l p) (plain 0) → Clear (startChecks l p)
+start-clear l p g = clear-of (startChecks l p) (plain 0) refl (start-coded l p) g
 
-pub wire-asks : (b : Blocks) (l : Layout) (p : Pins) → HeldOf b wires l → InRange (l .size) → Gives (startChecks l p) 0
+pub started : (l : Layout) (p : Pins) → Gives (startChecks l p) (plain 0) → Started l p
+unfolding Clear
+started l p g = let c = start-clear l p g in record { on = c .0; two = c .1 .0; clear = (λ h. c .1 .1 .0 (inl h), λ h. c .1 .1 .0 (inr h)) }
+
+pub wire-asks : (b : Blocks) (l : Layout) (p : Pins) → HeldOf b wires l → InRange (l .size) → Gives (startChecks l p) (plain 0)
     → Fits b × Asked (l .size) (flat b) p
 wire-asks b l p held range g =
     let s = started l p g in
@@ -76,15 +66,15 @@ wire-asks b l p held range g =
 
 -- ---- what the router's answer says
 
-pub refused-start : (l : Layout) (p : Pins) (k : ℕ) → ¬ (k ≡ 0) → Gives (startChecks l p) k → Wires l p (noWire k)
-refused-start l p k n g = record { code = gives-first (startChecks l p) _ k n g; blocks = λ z. absurd (n z); wire = λ z. absurd (n z) }
+pub refused-start : (l : Layout) (p : Pins) (k : ℕ) → ¬ (k ≡ 0) → Gives (startChecks l p) (plain k) → Wires l p (noWire k)
+refused-start l p k n g = record { code = gives-first (startChecks l p) _ (plain k) n g; blocks = λ z. absurd (n z); wire = λ z. absurd (n z) }
 
-module _ (l : Layout) (p : Pins) (g : Gives (startChecks l p) 0) where
+module _ (l : Layout) (p : Pins) (g : Gives (startChecks l p) (plain 0)) where
   G : Grid
   G = gridOf (l .size) (l .items)
 
-  after : (k : ℕ) → Gives ((12 if NoWire l p) ∷ (13 if TheWire l p (TooManyRuns p)) ∷ []) k → Gives (pinChecks l p) k
-  after k h = gives-then (startChecks l p) _ k (start-coded l p) g h
+  after : (k : ℕ) → Gives ((12 if NoWire l p) ∷ (13 if TheWire l p (TooManyRuns p)) ∷ []) (plain k) → Gives (pinChecks l p) (plain k)
+  after k h = gives-then (startChecks l p) _ (plain k) (start-clear l p g) h
 
   -- the wire that is told is the one that is written
   spelled : (n d k b : ℕ) (ps : List Node) (xs ys : List ℕ) → Told (gridOf (l .size) (l .items)) (source p) (target p) (Wire n d k)
@@ -112,13 +102,13 @@ module _ (l : Layout) (p : Pins) (g : Gives (startChecks l p) 0) where
         wire = λ z. spelled n d k b ps xs ys f w x y;
       }
   wires-by NoRoute ps xs ys b e f w x y = record { code = after 12 (inl (f, refl)); blocks = λ z. absurd (omega arith); wire = λ z. absurd (omega arith) }
-  wires-by ManyRuns ps xs ys b e f w x y = record {
+  wires-by (ManyRuns n) ps xs ys b e f w x y = record {
     code = after 13 (inr (λ h. h (f .0) (f .1 .0 .legal), inl ((f .0, f .1 .0, f .1 .1), refl)));
     blocks = λ z. absurd (omega arith);
     wire = λ z. absurd (omega arith);
   }
 
-pub wires-told : (b : Blocks) (l : Layout) (p : Pins) (r : Routed) (n : ℕ) → HeldOf b wires l → Gives (startChecks l p) 0
+pub wires-told : (b : Blocks) (l : Layout) (p : Pins) (r : Routed) (n : ℕ) → HeldOf b wires l → Gives (startChecks l p) (plain 0)
     → Answers (Rattle.paper.specs.Grid.gridWith (l .size .w) (l .size .h) (flat b)) (source p) (target p) r → n ≡ blockCount (l .items) → Wires l p (wiredOf r n)
 wires-told b l p r n held g a e =
     let c : Answers (gridOf (l .size) (l .items)) (source p) (target p) r = rw (flat-held held) at a in

@@ -15,12 +15,12 @@ use Rattle.paper.specs.Grid.{Node}
 use Rattle.paper.specs.Layout.{Thing, wire, gridOf, Turn, without, Layout, fresh}
 use Rattle.paper.specs.Padding.{boardOf, WellFormed}
 use Rattle.paper.specs.Reading.{Reads}
-use Rattle.paper.specs.Answer.{Check, Enters, source, target, way, checks, addTo, Outcome, quiet, told, Does, Tells, left, Replies, Fed}
+use Rattle.paper.specs.Answer.{Check, Bars, verdict, source, target, way, checks, addTo, Outcome, quiet, told, Does, Tells, left, Replies, Fed}
 use Rattle.paper.specs.History.{Call, FedAll, SameItems, Alike}
 use Rattle.paper.specs.Laws.Least.{one-answer}
 use Rattle.paper.specs.Laws.Back.{thingOf, layoutOf, held}
 use Rattle.paper.specs.Laws.Read.{one-record}
-use Rattle.paper.specs.Laws.One.{one-code}
+use Rattle.paper.specs.Laws.Checks.{one-verdict}
 use Rattle.paper.specs.Laws.Story.{history}
 
 -- ---- replies that tell the same
@@ -51,7 +51,7 @@ plain o = record { long = o .long; away = o .away; turned = o .turned; layout = 
 
 module _ (z : Size) (ts : List Thing) (k₁ k₂ : List Turn) where
   same-checks : (rec : Record) (n : ℕ) → ¬ (rec ≡ Undo) → _≡_ {A = List Check} (checks (keeping z ts k₁) rec n) (checks (keeping z ts k₂) rec n)
-  unfolding checks Enters
+  unfolding checks Bars
   same-checks Malformed n u = refl
   same-checks (Bounds b) n u = refl
   same-checks (KeepOut i r) n u = refl
@@ -83,7 +83,9 @@ module _ (z : Size) (ts : List Thing) (k₁ k₂ : List Turn) where
   alike-replies rec s s₁ s₂ r₁ r₂ u p q = go (r₁ .code) refl
     where
       c : r₁ .code ≡ r₂ .code
-      c = one-code (checks (keeping z ts k₂) rec (length s)) (r₁ .code) (r₂ .code) (rw (same-checks rec (length s) u) at (p .code)) (q .code)
+      c =
+          ap (λ v. v .code)
+          (one-verdict (checks (keeping z ts k₂) rec (length s)) (verdict r₁) (verdict r₂) (rw (same-checks rec (length s) u) at (p .code)) (q .code))
 
       go : (k : ℕ) → r₁ .code ≡ k → Alike s₁ s₂ r₁ r₂
       go zero e =

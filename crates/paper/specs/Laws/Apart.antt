@@ -10,7 +10,7 @@ use Rattle.paper.specs.declared.Rect.{Rect}
 use Rattle.paper.specs.Grid.{Node, Area, Meets, Block, widened, Hits, Any, All, Blocked}
 use Rattle.paper.specs.Wire.{runs}
 use Rattle.paper.specs.Layout.{Thing, keep-out, wire, Sort, keep-outs, wires, sortOf, rectangle, areas, distance, blocksOf, blocksTo, blockCount, Meet, Apart, Layout}
-use Rattle.paper.specs.Answer.{Enters}
+use Rattle.paper.specs.Answer.{Bars, Enters}
 use Rattle.paper.specs.Laws.Lists.{any-imp, any-image, any-back, any-left, any-right, any-flip, all-none, none-all}
 
 -- ---- no direction
@@ -99,7 +99,7 @@ module _ (c i : ℕ) (r : Rect) where
 -- a rectangle that enters no item, of either sort
 pub keep-out-apart : (l : Layout) (i : ℕ) (r : Rect) → ¬ (Enters l r keep-outs) → ¬ (Enters l r wires)
     → All (Apart (l .size .clearance) (keep-out i r)) (l .items)
-unfolding Enters By
+unfolding Bars By
 keep-out-apart l i r k w =
     none-all (Meet (l .size .clearance) (keep-out i r)) (l .items) (λ m. ⊎-elim k w (some-sorted (l .size .clearance) i r (l .items) m))
 

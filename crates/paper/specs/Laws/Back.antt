@@ -27,6 +27,12 @@ nodes [] ys = []
 nodes (x ∷ xs) [] = []
 nodes (x ∷ xs) (y ∷ ys) = record { x = x; y = y } ∷ nodes xs ys
 
+pub length-nodes : (xs ys : List ℕ) → length xs ≡ length ys → length (nodes xs ys) ≡ length xs
+unfolding nodes
+length-nodes [] ys e = refl
+length-nodes (x ∷ xs) [] e = absurd (omega arith)
+length-nodes (x ∷ xs) (y ∷ ys) e = ap suc (length-nodes xs ys (omega arith))
+
 unfoldable pub thingOf : Item → Thing
 thingOf m =
     cond (eqb (m .runs) 0)

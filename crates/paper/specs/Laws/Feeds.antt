@@ -5,7 +5,7 @@ use native.Mathlib.Omega.{arith}
 use mathlib.Core.Path.{_≡_, refl, subst}
 use mathlib.Core.Bool.{Bool, true, false, cond}
 use mathlib.Core.Logic.{inl, inr}
-use mathlib.Core.List.{List, [], _∷_, _++_}
+use mathlib.Core.List.{List, [], _∷_}
 use lib.ListN.{length}
 use Rattle.paper.specs.declared.Pins.{Pins}
 use Rattle.paper.specs.declared.Board.{Board}
@@ -16,43 +16,25 @@ use Rattle.paper.specs.Wire.{Answered}
 use Rattle.paper.specs.Layout.{gridOf, Layout}
 use Rattle.paper.specs.Padding.{boardOf, Holds, WellFormed}
 use Rattle.paper.specs.Reading.{Reads}
-use Rattle.paper.specs.Answer.{Check, _if_, _unless_, Gives, source, target, TheWire, checks, Outcome, Does, flat, written, Fed}
+use Rattle.paper.specs.Answer.{plain, Check, _if_, _unless_, Gives, source, target, TheWire, checks, Outcome, Does, flat, written, Fed}
 use Rattle.paper.specs.Laws.Least.{one-answer}
-use Rattle.paper.specs.Laws.Next.{Coded}
 use Rattle.paper.specs.Laws.Says.{Says, says-as}
 
 -- ---- the first code that applies, by a test of each condition
 
-pub gives-none : Gives [] 0
+pub gives-none : Gives [] (plain 0)
 unfolding Gives
 gives-none = refl
 
-pub gives-if : {P : Type 0} {b : Bool} (n k : ℕ) (cs : List Check) → Says b P → (¬ P → Gives cs k) → Gives ((n if P) ∷ cs) (cond b n k)
+pub gives-if : {P : Type 0} {b : Bool} (n k : ℕ) (cs : List Check) → Says b P → (¬ P → Gives cs (plain k)) → Gives ((n if P) ∷ cs) (plain (cond b n k))
 unfolding Gives
 gives-if {b = true} n k cs p rest = inl (p .fact tt, refl)
 gives-if {b = false} n k cs p rest = inr (p .test, rest (p .test))
 
-pub gives-unless : {P : Type 0} {b : Bool} (n k : ℕ) (cs : List Check) → Says b P → (P → Gives cs k) → Gives ((n unless P) ∷ cs) (cond b k n)
+pub gives-unless : {P : Type 0} {b : Bool} (n k : ℕ) (cs : List Check) → Says b P → (P → Gives cs (plain k)) → Gives ((n unless P) ∷ cs) (plain (cond b k n))
 unfolding Gives
 gives-unless {b = true} n k cs p rest = inr (p .fact tt, rest (p .fact tt))
 gives-unless {b = false} n k cs p rest = inl (p .test, refl)
-
--- the first codes of two lists together: where the first list gives none, the second decides
-pub gives-first : (cs ds : List Check) (k : ℕ) → ¬ (k ≡ 0) → Gives cs k → Gives (cs ++ ds) k
-unfolding Gives
-gives-first [] ds k n g = absurd (n g)
-gives-first ((m if p) ∷ cs) ds k n (inl g) = inl g
-gives-first ((m if p) ∷ cs) ds k n (inr g) = inr (g .0, gives-first cs ds k n (g .1))
-gives-first ((m unless p) ∷ cs) ds k n (inl g) = inl g
-gives-first ((m unless p) ∷ cs) ds k n (inr g) = inr (g .0, gives-first cs ds k n (g .1))
-
-pub gives-then : (cs ds : List Check) (k : ℕ) → Coded cs → Gives cs 0 → Gives ds k → Gives (cs ++ ds) k
-unfolding Gives Coded
-gives-then [] ds k c g h = h
-gives-then ((m if p) ∷ cs) ds k c (inl g) h = absurd (omega (arith, c .0, g .1))
-gives-then ((m if p) ∷ cs) ds k c (inr g) h = inr (g .0, gives-then cs ds k (c .1) (g .1) h)
-gives-then ((m unless p) ∷ cs) ds k c (inl g) h = absurd (omega (arith, c .0, g .1))
-gives-then ((m unless p) ∷ cs) ds k c (inr g) h = inr (g .0, gives-then cs ds k (c .1) (g .1) h)
 
 -- what a test says of the one answered wire
 pub the-wire-says : (l : Layout) (p : Pins) (P : List Dir → Type 0) (v : List Dir) {b : Bool}
@@ -73,7 +55,7 @@ unfolding Fed flat
 fed-ill b bytes s n = inl (n, refl, record { length-is = refl; detour-is = refl; corners-are = refl; board-is = refl; slice-is = refl })
 
 module _ (b : Board) (l : Layout) (bytes s : List ℕ) (rec : Record) (holds : Holds b l) (reads : Reads bytes rec) where
-  pub fed-refused : (k : ℕ) → 1 ≤ k → Gives (checks l rec (length s)) k → Fed b bytes s s (refusing k b)
+  pub fed-refused : (k : ℕ) → 1 ≤ k → Gives (checks l rec (length s)) (plain k) → Fed b bytes s s (refusing k b)
   unfolding Fed flat
   fed-refused k some gives =
       inr (
@@ -88,7 +70,7 @@ module _ (b : Board) (l : Layout) (bytes s : List ℕ) (rec : Record) (holds : H
         },
       )
 
-  pub fed-accepted : (o : Outcome) → Gives (checks l rec (length s)) 0 → Does l rec o → Fed b bytes s (written (o .turned) s) (accepting o)
+  pub fed-accepted : (o : Outcome) → Gives (checks l rec (length s)) (plain 0) → Does l rec o → Fed b bytes s (written (o .turned) s) (accepting o)
   unfolding Fed
   fed-accepted o gives does =
       inr (

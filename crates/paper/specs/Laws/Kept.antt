@@ -18,10 +18,11 @@ use Rattle.paper.specs.Wire.{Answered, runs}
 use Rattle.paper.specs.Layout.{keep-out, wire, wires, blocksTo, gridOf, ThingFits, Layout, Laid, Sound}
 use Rattle.paper.specs.Padding.{Holds, WellFormed}
 use Rattle.paper.specs.Reading.{Plain, Reads}
-use Rattle.paper.specs.Answer.{Gives, source, target, way, checks, addTo, Outcome, Does, Replies, Fed}
+use Rattle.paper.specs.Answer.{verdict, source, target, way, checks, addTo, Outcome, Does, Replies, Fed}
 use Rattle.paper.specs.Laws.Read.{read-plain}
 use Rattle.paper.specs.Laws.Apart.{wire-apart, keep-out-apart}
-use Rattle.paper.specs.Laws.Next.{Spared, Spares, spares, laid, laid-add, laid-take, laid-undo, laid-empty}
+use Rattle.paper.specs.Laws.Checks.{Spared}
+use Rattle.paper.specs.Laws.Next.{Spares, spares, laid, laid-add, laid-take, laid-undo, laid-empty}
 use Rattle.paper.specs.Laws.Traced.{open-boxes, answered-clear, answered-fits}
 
 -- ---- by kind
@@ -65,9 +66,9 @@ unfolding Does
 does-plain l bytes rec o r d = ⊎-elim (λ p. p) (λ e. absurd (rw e at d)) (read-plain bytes rec r)
 
 -- accepted bytes leave a sound layout
-pub sound-next : (l : Layout) (bytes : List ℕ) (rec : Record) (n : ℕ) (o : Outcome) → Sound l → Reads bytes rec → Gives (checks l rec n) 0
+pub sound-next : (l : Layout) (bytes : List ℕ) (rec : Record) (n : ℕ) (o : Outcome) → Sound l → Reads bytes rec → Spares l rec n
     → Does l rec o → Sound (o .layout)
-sound-next l bytes rec n o z r g d = next l rec n o z (does-plain l bytes rec o r d) (spares l rec n g) d
+sound-next l bytes rec n o z r h d = next l rec n o z (does-plain l bytes rec o r d) h d
 
 -- the reply to a board that holds l leaves a board that holds a layout too
 pub replied : (b : Board) (l : Layout) (bytes : List ℕ) (rec : Record) (s s′ : List ℕ) (r : Reply) → Holds b l → Reads bytes rec
@@ -77,7 +78,7 @@ replied b l bytes rec s s′ r h k f = go (r .code) refl
   where
     go : (n : ℕ) → r .code ≡ n → (m : Layout) × Holds (r .board) m
     go zero e = let a = f .accepted e in
-        (a .0 .layout, record { sound = sound-next l bytes rec (length s) (a .0) (h .sound) k (rw e at (f .code)) (a .1); same = a .2 .board-is })
+        (a .0 .layout, record { sound = sound-next l bytes rec (length s) (a .0) (h .sound) k (spares l rec (length s) (verdict r) e (f .code)) (a .1); same = a .2 .board-is })
     go (suc n) e = let a = f .refused (λ z. omega arith) in (l, record { sound = h .sound; same = a .board-is })
 
 -- feeding keeps boards well formed

@@ -9,41 +9,19 @@ use mathlib.Core.List.{List, [], _∷_}
 use lib.ListN.{length, take, length-take}
 use lib.Dec.{eqb}
 use Rattle.paper.specs.declared.Size.{Size}
+use Rattle.paper.specs.declared.Verdict.{Verdict}
 use Rattle.paper.specs.declared.Record.{Record}
 use Rattle.paper.specs.declared.Record.the-variants.{Bounds, KeepOut, Lay, Ask, TakeOut, Undo, Malformed}
 use Rattle.paper.specs.Limits.{most-blocks, most-kept}
 use Rattle.paper.specs.Grid.{All, Pairs}
 use Rattle.paper.specs.Layout.{Thing, idOf, blockCount, Apart, ThingFits, Below, ItemsFit, Turn, added, taken, add, without, Has, Used, undo, CanUndo, Undoes, Layout, InRange, empty, Laid, Sound}
-use Rattle.paper.specs.Answer.{Check, _if_, _unless_, Gives, BeforeBounds, TooManyBlocks, checks, changed, addTo, takeFrom}
+use Rattle.paper.specs.Answer.{Gives, BeforeBounds, TooManyBlocks, checks, changed, addTo, takeFrom}
+use Rattle.paper.specs.Laws.Checks.{Coded, clear-of, Spared, spared}
 use Rattle.paper.specs.Laws.Back.{has-add}
 use Rattle.paper.specs.Laws.Among.{all-add, all-without, pairs-add, pairs-without, rising-add, without-add, add-without, not-used-without, count-add, count-without}
 use Rattle.paper.specs.Laws.Apart.{apart-turn}
 
 -- ---- code 0: none of the checks applies
-
--- what code 0 says of the check that gives k
-unfoldable pub Spared : List Check → ℕ → Type 0
-Spared [] k = Unit {0}
-Spared ((n if p) ∷ cs) k = cond (eqb k n) (¬ p) (Spared cs k)
-Spared ((n unless p) ∷ cs) k = cond (eqb k n) p (Spared cs k)
-
--- no check of the list gives 0
-unfoldable pub Coded : List Check → Type 0
-Coded [] = Unit {0}
-Coded ((n if p) ∷ cs) = (1 ≤ n) × Coded cs
-Coded ((n unless p) ∷ cs) = (1 ≤ n) × Coded cs
-
-either : {A B : Type 0} (b : Bool) → A → B → cond b A B
-either true x y = x
-either false x y = y
-
-accepts : (cs : List Check) → Coded cs → Gives cs 0 → (k : ℕ) → Spared cs k
-unfolding Gives Spared Coded
-accepts [] c g k = tt
-accepts ((n if p) ∷ cs) c (inl g) k = absurd (omega (arith, c .0, g .1))
-accepts ((n if p) ∷ cs) c (inr g) k = either (eqb k n) (g .0) (accepts cs (c .1) (g .1) k)
-accepts ((n unless p) ∷ cs) c (inl g) k = absurd (omega (arith, c .0, g .1))
-accepts ((n unless p) ∷ cs) c (inr g) k = either (eqb k n) (g .0) (accepts cs (c .1) (g .1) k)
 
 checks-coded : (l : Layout) (rec : Record) (n : ℕ) → Coded (checks l rec n)
 unfolding Coded checks
@@ -58,8 +36,8 @@ checks-coded l Undo n = omega arith
 abbrev pub Spares : Layout → Record → ℕ → Type 0
 Spares l rec n = (k : ℕ) → Spared (checks l rec n) k
 
-pub spares : (l : Layout) (rec : Record) (n : ℕ) → Gives (checks l rec n) 0 → Spares l rec n
-spares l rec n g k = accepts (checks l rec n) (checks-coded l rec n) g k
+pub spares : (l : Layout) (rec : Record) (n : ℕ) (v : Verdict) → v .code ≡ 0 → Gives (checks l rec n) v → Spares l rec n
+spares l rec n v z g = spared (checks l rec n) (clear-of (checks l rec n) v z (checks-coded l rec n) g)
 
 -- ---- items that fit, with one more, with one less
 

@@ -13,25 +13,12 @@ use Rattle.paper.specs.declared.Record.the-variants.{Bounds, KeepOut, La
 use Rattle.paper.specs.Grid.{Node, Any, Pairs}
 use Rattle.paper.specs.Layout.{Thing, wire, idOf, gridOf, Below, Has, undo, Layout, Sound}
 use Rattle.paper.specs.Padding.{boardOf, WellFormed}
-use Rattle.paper.specs.Answer.{Check, _if_, _unless_, Gives, source, target, way, checks, addTo, takeFrom, Outcome, quiet, told, Does, Tells, Accepted, left, Replies, Fed}
+use Rattle.paper.specs.Answer.{verdict, source, target, way, checks, addTo, takeFrom, Outcome, quiet, told, Does, Tells, Accepted, left, Replies, Fed}
+use Rattle.paper.specs.Laws.Checks.{one-verdict}
 use Rattle.paper.specs.Laws.Lists.{all-has}
 use Rattle.paper.specs.Laws.Least.{one-answer}
 use Rattle.paper.specs.Laws.Back.{one-layout}
 use Rattle.paper.specs.Laws.Read.{one-record}
-
--- ---- one code
-
-pub one-code : (cs : List Check) (j k : ℕ) → Gives cs j → Gives cs k → j ≡ k
-unfolding Gives
-one-code [] j k p q = p ∙ sym q
-one-code ((n if c) ∷ cs) j k (inl p) (inl q) = p .1 ∙ sym (q .1)
-one-code ((n if c) ∷ cs) j k (inl p) (inr q) = absurd (q .0 (p .0))
-one-code ((n if c) ∷ cs) j k (inr p) (inl q) = absurd (p .0 (q .0))
-one-code ((n if c) ∷ cs) j k (inr p) (inr q) = one-code cs j k (p .1) (q .1)
-one-code ((n unless c) ∷ cs) j k (inl p) (inl q) = p .1 ∙ sym (q .1)
-one-code ((n unless c) ∷ cs) j k (inl p) (inr q) = absurd (p .0 (q .0))
-one-code ((n unless c) ∷ cs) j k (inr p) (inl q) = absurd (q .0 (p .0))
-one-code ((n unless c) ∷ cs) j k (inr p) (inr q) = one-code cs j k (p .1) (q .1)
 
 -- ---- one outcome
 
@@ -87,7 +74,7 @@ replies-same : (l : Layout) (rec : Record) (s s₁ s₂ : List ℕ) (r₁ r₂ :
 replies-same l rec s s₁ s₂ r₁ r₂ z p q = go (r₁ .code) refl
   where
     c : r₁ .code ≡ r₂ .code
-    c = one-code (checks l rec (length s)) (r₁ .code) (r₂ .code) (p .code) (q .code)
+    c = ap (λ v. v .code) (one-verdict (checks l rec (length s)) (verdict r₁) (verdict r₂) (p .code) (q .code))
 
     go : (k : ℕ) → r₁ .code ≡ k → (r₁ ≡ r₂) × (s₁ ≡ s₂)
     go zero e = accepted-same l rec s s₁ s₂ r₁ r₂ z c (p .accepted e) (q .accepted (sym c ∙ e))

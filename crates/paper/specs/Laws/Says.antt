@@ -77,6 +77,9 @@ says-le m n = record { fact = leb→le m n; test = le→leb m n }
 pub says-eq : (m n : ℕ) → Says (eqb m n) (m ≡ n)
 says-eq m n = record { fact = eqb→eq m n; test = λ e. subst (λ k. T (eqb m k)) e (eqb-refl m) }
 
+pub says-ne : (m n : ℕ) → Says (not (eqb m n)) (¬ (m ≡ n))
+says-ne m n = says-not (says-eq m n)
+
 -- each number below n
 unfoldable pub belowb : ℕ → (ℕ → Bool) → Bool
 belowb zero f = true

@@ -13,13 +13,14 @@ use Rattle.paper.specs.Limits.{most-kept}
 use Rattle.paper.specs.Layout.{Thing, keep-out, wire, gridOf, Turn, add, undo, Layout, fresh, Sound}
 use Rattle.paper.specs.Padding.{boardOf, Holds, WellFormed}
 use Rattle.paper.specs.Reading.{Reads}
-use Rattle.paper.specs.Answer.{Gives, source, target, way, checks, changed, Outcome, Does, Accepted, Replies, Fed}
+use Rattle.paper.specs.Answer.{verdict, source, target, way, checks, changed, Outcome, Does, Accepted, Replies, Fed}
 use Rattle.paper.specs.History.{Past, start, becomes, Passes, Call, FedAll, Moves, Story}
 use Rattle.paper.specs.Laws.Least.{one-answer}
 use Rattle.paper.specs.Laws.Back.{layoutOf, held, one-layout}
 use Rattle.paper.specs.Laws.Read.{one-record}
 use Rattle.paper.specs.Laws.Among.{without-add, add-without}
-use Rattle.paper.specs.Laws.Next.{Spared, Spares, spares, laid}
+use Rattle.paper.specs.Laws.Checks.{Spared}
+use Rattle.paper.specs.Laws.Next.{Spares, spares, laid}
 use Rattle.paper.specs.Laws.Kept.{sound-next}
 
 -- ---- the past of a layout
@@ -111,11 +112,11 @@ moved b c l k (inr f) = go (c .reply .code) refl
         × ((c .reply .code ≡ 0 → (rec : Record) × Reads (c .bytes) rec × Passes (past l) rec (past m)) × (¬ (c .reply .code ≡ 0) → past m ≡ past l))
     go zero e =
         let a : Accepted l rec (c .lent) (c .after) (c .reply) = R .accepted e in
-        let g : Gives (checks l rec (length (c .lent))) 0 = subst (λ k. Gives (checks l rec (length (c .lent))) k) e (R .code) in (
+        let g : Spares l rec (length (c .lent)) = spares l rec (length (c .lent)) (verdict (c .reply)) e (R .code) in (
           a .0 .layout,
           record { sound = sound-next l (c .bytes) rec (length (c .lent)) (a .0) (k .sound) (f .3) g (a .1); same = a .2 .board-is },
           (
-            λ z. (rec, f .3, passes l rec (length (c .lent)) (a .0) (k .sound) (spares l rec (length (c .lent)) g) (a .1)),
+            λ z. (rec, f .3, passes l rec (length (c .lent)) (a .0) (k .sound) g (a .1)),
             λ z. absurd (z e),
           ),
         )

@@ -17,7 +17,7 @@ use Rattle.paper.specs.Wire.{turns, corners, runs, gap, manhattan, detou
 use Rattle.paper.specs.Layout.{wires, blocksTo, Sound}
 use Rattle.paper.specs.Padding.{boardOf}
 use Rattle.paper.specs.Reading.{fieldsOf, Plain, Reads}
-use Rattle.paper.specs.Answer.{Gives, source, target, way, TooManyRuns, checks, Outcome, quiet, told, Does, written, Tells, Fed}
+use Rattle.paper.specs.Answer.{plain, Gives, source, target, way, TooManyRuns, checks, Outcome, quiet, told, Does, written, Tells, Fed}
 use Rattle.paper.specs.TableP.{Row, layoutIn, asking, replyIn, Stands, tableP}
 use Rattle.paper.specs.Laws.Lists.{all-imp}
 use Rattle.paper.specs.Laws.Says.{Says, says-as, says-self, says-never, says-and, says-and₃, says-and₄, says-or, says-not, says-if, says-le, says-eq, says-all, listb, says-list}
@@ -93,7 +93,7 @@ module _ (r : Row) (tab : Table) (v : List Dir) where
       (cond (eqb (look tab here) 0) 12
       (cond (ltb most-runs (length (runs (way (r .pins) v)))) 13 0)))) 9
 
-  gives : (n : ℕ) → least-slice ≤ n → T routedb → Gives (checks (layoutIn r) (Ask (r .pins)) n) codeIn
+  gives : (n : ℕ) → least-slice ≤ n → T routedb → Gives (checks (layoutIn r) (Ask (r .pins)) n) (plain codeIn)
   unfolding checks codeIn
   gives n fits routed =
       let none = none-by-table 10 10 (blocksIn r) tab here there v routed in

@@ -12,14 +12,15 @@ use Rattle.paper.specs.declared.Reply.{Reply}
 use Rattle.paper.specs.declared.Record.{Record}
 use Rattle.paper.specs.declared.Record.the-variants.{Lay, Ask}
 use Rattle.paper.specs.Grid.{Grid, Node, Dir, step}
-use Rattle.paper.specs.Wire.{Legal, First, Answered}
+use Rattle.paper.specs.Wire.{Legal, First, Answered, ToGo}
 use Rattle.paper.specs.Layout.{wire, gridOf, OnBoard, Layout, Laid, Sound}
 use Rattle.paper.specs.Padding.{boardOf, Holds}
 use Rattle.paper.specs.Reading.{Reads}
-use Rattle.paper.specs.Answer.{source, target, way, checks, addTo, Outcome, told, Does, Tells, Replies, Fed}
-use Rattle.paper.specs.Copper.{ToGo, Falls, Routes, lay, ask, Copper}
+use Rattle.paper.specs.Answer.{source, target, way, checks, verdict, addTo, Outcome, told, Does, Tells, Replies, Fed}
+use Rattle.paper.specs.Copper.{Falls, Routes, lay, ask, Copper}
 use Rattle.paper.specs.Laws.Read.{one-record}
-use Rattle.paper.specs.Laws.Next.{Spared, Spares, spares, laid}
+use Rattle.paper.specs.Laws.Checks.{Spared}
+use Rattle.paper.specs.Laws.Next.{Spares, spares, laid}
 use Rattle.paper.specs.Laws.Kept.{laid-clear}
 use Rattle.paper.specs.Laws.Points.{clear-points}
 use Rattle.paper.specs.Laws.Detour.{length-detour}
@@ -72,11 +73,11 @@ told-copper : (l : Layout) (rec : Record) (p : Pins) (s s′ : List ℕ) (r : Re
     → (w : List Dir) × Copper l p s s′ r w
 unfolding Does Spared checks
 told-copper l rec p s s′ r ask z f e =
-    let n : Spares l (Ask p) (length s) = spares l (Ask p) (length s) (rw e at (f .code)) in
+    let n : Spares l (Ask p) (length s) = spares l (Ask p) (length s) (verdict r) e (f .code) in
     let a = f .accepted e in
     (a .1 .0, copper l l p (a .0) s s′ r (a .1 .0) (laid l z (n 2)) (n 9 .0) (a .1 .1) (a .1 .2) (a .2))
 told-copper l rec p s s′ r (lay {i = i}) z f e =
-    let n : Spares l (Lay i p) (length s) = spares l (Lay i p) (length s) (rw e at (f .code)) in
+    let n : Spares l (Lay i p) (length s) = spares l (Lay i p) (length s) (verdict r) e (f .code) in
     let a = f .accepted e in
     let m : Layout = addTo l (wire (i .number) (way p (a .1 .0))) in
     (a .1 .0, copper l m p (a .0) s s′ r (a .1 .0) (laid l z (n 2)) (n 9 .0) (a .1 .1) (a .1 .2) (a .2))

@@ -17,7 +17,7 @@ use Rattle.paper.specs.Wire.{Legal, Answered, turns, corners, between, r
 use Rattle.paper.specs.Layout.{Thing, keep-out, wire, wires, areas, blocksOf, blocksTo, Along, Turning, lastOf, EndsDiffer, WireFits, ThingFits}
 use Rattle.paper.specs.Laws.Lists.{all-join}
 use Rattle.paper.specs.Laws.Back.{length-runs}
-use Rattle.paper.specs.Laws.Steps.{axisOf, onward, west, south, Inside, free-inside, Forward, forward}
+use Rattle.paper.specs.Laws.Steps.{axisOf, back, onward, west, south, Inside, free-inside, Forward, forward}
 
 -- ---- a run of two parts is blocked where one of its parts is
 
@@ -78,7 +78,7 @@ straight-along N q p h = omega arith
 straight-along W q p h = omega arith
 straight-along S q p h = omega arith
 
-straight-first : (G : Grid) (d : Dir) (p : Node) → Free G p d → Straight d p (step d p)
+pub straight-first : (G : Grid) (d : Dir) (p : Node) → Free G p d → Straight d p (step d p)
 unfolding Straight Free step
 straight-first G E p f = omega arith
 straight-first G N p f = omega arith
@@ -128,13 +128,22 @@ pub turns-at : (d e : Dir) (p : Node) (v : List Dir) → eqb (rank d) (rank e) �
 unfolding turns
 turns-at d e p v h = ap (λ (b : Bool). elim b as (λ _. List Node) [ true ↦ turns e (step e p) v | false ↦ p ∷ turns e (step e p) v ]) h
 
--- the corners after q of a wire that goes on from q along the axis to t
-pub record Traced (G : Grid) (bs : List Block) (a : Axis) (t q : Node) (ps : List Node) : Type 0 where
-  pub turning : Turning a (runs (q ∷ ps))
+-- of a walk that goes on from q to t, the corners after q: whichever way it turns, or turns back
+pub record Passed (G : Grid) (bs : List Block) (t q : Node) (ps : List Node) : Type 0 where
   pub clear : All (λ r. ¬ (Blocked bs r)) (runs (q ∷ ps))
   pub inside : All (Inside G) ps
   pub last : lastOf q ps ≡ t
   pub some : 1 ≤ length ps
+
+-- straight on, or not
+pub on-or-not : (d e : Dir) → ((d ≡ e) × (eqb (rank d) (rank e) ≡ true)) ⊎ (eqb (rank d) (rank e) ≡ false)
+on-or-not d e = ⊎-elim (λ k. inl k) (λ k. inr (⊎-elim (λ m. m .1) (λ m. rw m (turned-back d)) k)) (onward d e)
+  where
+    turned-back : (d : Dir) → eqb (rank d) (rank (back d)) ≡ false
+    turned-back E = refl
+    turned-back N = refl
+    turned-back W = refl
+    turned-back S = refl
 
 module _ (w h : ℕ) (bs : List Block) (t : Node) (o : All OpenBox bs) where
   abbrev G : Grid
@@ -143,45 +152,39 @@ module _ (w h : ℕ) (bs : List Block) (t : Node) (o : All OpenBox bs) where
   free-clear : (p : Node) (d : Dir) → Free G p d → ¬ (Blocked bs (between p (step d p)))
   free-clear p d f = rw (step-area G p d f) (free-open G p d f)
 
-  trace : (d : Dir) (q p : Node) (v : List Dir) → Straight d q p → ¬ (Blocked bs (between q p)) → Inside G p
-      → Legal G p t v → Forward d v → Traced G bs (axisOf d) t q (turns d p v)
-  unfolding Legal Forward Turning All runs lastOf
-  trace d q p [] s m i l f = unfold turns in record {
-    turning = (straight-along d q p s, tt);
-    clear = (m, tt);
-    inside = (i, tt);
-    last = l;
-    some = omega arith;
-  }
-  trace d q p (e ∷ v) s m i l f =
+  passed : (d : Dir) (q p : Node) (v : List Dir) → Straight d q p → ¬ (Blocked bs (between q p)) → Inside G p → Legal G p t v
+      → Passed G bs t q (turns d p v)
+  unfolding Legal All runs lastOf
+  passed d q p [] s m i l = unfold turns in record { clear = (m, tt); inside = (i, tt); last = l; some = omega arith }
+  passed d q p (e ∷ v) s m i l =
       ⊎-elim
-      (λ k. let s′ : Straight e q p = subst (λ c. Straight c q p) (k .0) s in
-      let on = straight-on G e q p s′ (l .0) in
-      let r : Traced G bs (axisOf e) t q (turns e (step e p) v)
-      = trace e q (step e p) v (on .0)
-      (λ b. ⊎-elim m (free-clear p e (l .0)) (blocked-part bs q p (step e p) o (on .1) b))
-      (free-inside G p e (l .0) .1) (l .1) (f .1) in
-      rw (turns-on d e p v (k .1)) (subst (λ c. Traced G bs (axisOf c) t q (turns e (step e p) v)) (sym (k .0)) r))
+      (λ k. let on = straight-on G e q p (subst (λ c. Straight c q p) (k .0) s) (l .0) in
+      rw (turns-on d e p v (k .1)) (passed e q (step e p) v (on .0)
+      (λ b. ⊎-elim m (free-clear p e (l .0)) (blocked-part bs q p (step e p) o (on .1) b)) (free-inside G p e (l .0) .1) (l .1)))
+      (λ k. let r = passed e p (step e p) v (straight-first G e p (l .0)) (free-clear p e (l .0)) (free-inside G p e (l .0) .1) (l .1) in
+      rw (turns-at d e p v k) (record { clear = (m, r .clear); inside = (i, r .inside); last = r .last; some = omega arith }))
+      (on-or-not d e)
+
+  pub passed-all : (s : Node) (d : Dir) (v : List Dir) → Legal G s t (d ∷ v) → Passed G bs t s (turns d (step d s) v)
+  unfolding Legal
+  passed-all s d v l = passed d s (step d s) v (straight-first G d s (l .0)) (free-clear s d (l .0)) (free-inside G s d (l .0) .1) (l .1)
+
+  -- where it never turns back, each run goes across the one before
+  turning : (d : Dir) (q p : Node) (v : List Dir) → Straight d q p → Legal G p t v → Forward d v → Turning (axisOf d) (runs (q ∷ turns d p v))
+  unfolding Legal Forward Turning runs
+  turning d q p [] s l f = unfold turns in (straight-along d q p s, tt)
+  turning d q p (e ∷ v) s l f =
+      ⊎-elim
+      (λ k. let on = straight-on G e q p (subst (λ c. Straight c q p) (k .0) s) (l .0) in
+      rw (turns-on d e p v (k .1)) (subst (λ c. Turning (axisOf c) (runs (q ∷ turns e (step e p) v))) (sym (k .0)) (turning e q (step e p) v (on .0) (l .1) (f .1))))
       (⊎-elim
-      (λ k. let r : Traced G bs (axisOf e) t p (turns e (step e p) v)
-      = trace e p (step e p) v (straight-first G e p (l .0)) (free-clear p e (l .0))
-      (free-inside G p e (l .0) .1) (l .1) (f .1) in
-      rw (turns-at d e p v (k .1)) (record {
-        turning = (straight-along d q p s, subst (λ a. Turning a (runs (p ∷ turns e (step e p) v))) (k .0) (r .turning));
-        clear = (m, r .clear);
-        inside = (i, r .inside);
-        last = r .last;
-        some = omega arith;
-      }))
+      (λ k. rw (turns-at d e p v (k .1)) (
+        straight-along d q p s,
+        subst (λ a. Turning a (runs (p ∷ turns e (step e p) v))) (k .0)
+            (turning e p (step e p) v (straight-first G e p (l .0)) (l .1) (f .1)),
+      ))
       (λ k. absurd (f .0 k)))
       (onward d e)
-
-  traced : (s : Node) (d : Dir) (v : List Dir) → Answered G s t (d ∷ v) → Traced G bs (axisOf d) t s (turns d (step d s) v)
-  unfolding Legal
-  traced s d v a =
-      let f : Free G s d = a .legal .0 in
-      trace d s (step d s) v (straight-first G d s f) (free-clear s d f) (free-inside G s d f .1) (a .legal .1)
-      (forward G s t d v (a .legal) (a .shortest))
 
 -- ---- the blocks of items that fit have room inside
 
@@ -212,7 +215,7 @@ pub answered-clear : (w h : ℕ) (bs : List Block) (s t : Node) (v : List Dir) �
     → All (λ r. ¬ (Blocked bs r)) (runs (corners s v))
 unfolding Legal corners
 answered-clear w h bs s t [] o a = unfold All runs in tt
-answered-clear w h bs s t (d ∷ v) o a = traced w h bs t o s d v a .clear
+answered-clear w h bs s t (d ∷ v) o a = passed-all w h bs t o s d v (a .legal) .clear
 
 -- its corners make a wire that fits on the board
 pub answered-fits : (z : Size) (bs : List Block) (s t : Node) (v : List Dir) → All OpenBox bs
@@ -220,11 +223,14 @@ pub answered-fits : (z : Size) (bs : List Block) (s t : Node) (v : List Dir) →
 unfolding Legal corners
 answered-fits z bs s t [] o a n few = absurd (n (a .legal))
 answered-fits z bs s t (d ∷ v) o a n few =
-    let r = traced (z .w) (z .h) bs t o s d v a in
+    let r = passed-all (z .w) (z .h) bs t o s d v (a .legal) in
+    let f : Free (gridWith (z .w) (z .h) bs) s d = a .legal .0 in
+    let across-each = turning (z .w) (z .h) bs t o d s (step d s) v (straight-first (gridWith (z .w) (z .h) bs) d s f) (a .legal .1)
+    (forward (gridWith (z .w) (z .h) bs) s t d v (a .legal) (a .shortest)) in
     record {
       ends = unfold EndsDiffer in (λ e. n (e ∙ r .last));
       some = omega (arith, length-runs s (turns d (step d s) v), r .some);
       few = few;
-      turning = either (axisOf d) (s ∷ turns d (step d s) v) (r .turning);
+      turning = either (axisOf d) (s ∷ turns d (step d s) v) across-each;
       on = unfold All in (free-inside (gridWith (z .w) (z .h) bs) s d (a .legal .0) .0, r .inside);
     }

@@ -7,7 +7,8 @@ use mathlib.Core.Logic.{inl, inr}
 use lib.ListN.{length, take, drop, length-take, length-drop}
 use borrow.Author.Needs.{needs}
 use borrow.Author.Tests.{ltb-true, ltb-false, leb-true, leb-false}
-use Rattle.sheet.specs.Laws.Written.{puts-length}
+use Rattle.sheet.specs.Sheet.{line-room}
+use Rattle.text.specs.Laws.Written.{puts-length}
 use Rattle.printer.specs.Filled.{Filled}
 use Rattle.printer.specs.Filling.{fill-none, fill-more}
 use Rattle.printer.proofs.fill.Statement.{statement}
@@ -42,7 +43,7 @@ step-requires : tie.Need-step-requires Inv-loop μ-loop
 step-requires c κs =
     let r = c .before in
     let l = r .before .before .before in
-    let h : 336 ≤ length (take (length (l .loop .out) - l .loop .waiting) (drop (l .loop .waiting) (l .loop .out)))
+    let h : line-room ≤ length (take (length (l .loop .out) - l .loop .waiting) (drop (l .loop .waiting) (l .loop .out)))
     = omega (
       arith,
       leb-true,

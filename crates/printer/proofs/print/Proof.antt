@@ -13,7 +13,7 @@ use borrow.Author.Tests.{ltb-false}
 use Rattle.paper.specs.Layout.{fresh}
 use Rattle.paper.specs.Padding.{boardOf}
 use Rattle.sheet.specs.Sheet.{Stepped}
-use Rattle.sheet.specs.Laws.Written.{puts-length}
+use Rattle.text.specs.Laws.Written.{puts-length}
 use Rattle.printer.specs.Filled.{Within, Leads, here, Over}
 use Rattle.printer.specs.Filling.{leads-join, leads-count, fills-over, all-printed}
 use Rattle.printer.specs.Turns.{left, fewer, put-within}

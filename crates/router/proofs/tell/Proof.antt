@@ -58,7 +58,7 @@ returns-2 : tie.Need-returns-2
 returns-2 c =
     let s = c .before .before .before .before .before .before .before in
     rw (c .silent2 .ensures) (told-many (here s) (s .args .d .now) (s .args .s) (s .args .t) (s .args .p) _ _ _ (c .before .before .trace .ensures)
-    (reached (c .before .before .before .before .before)) (c .before .if2 .taken))
+    (reached (c .before .before .before .before .before)) (c .before .if2 .taken) _ (c .before .before .before .before .before .before .left-at .ensures))
 
 detour-requires : tie.Need-detour-requires
 detour-requires c κs =

@@ -3,7 +3,7 @@
 use native.Mathlib.Omega.{arith}
 use borrow.Author.Needs.{needs}
 use Rattle.sheet.specs.Sheet.{cornersIn}
-use Rattle.sheet.specs.Laws.Written.{_then_, byte-reach, five-digits}
+use Rattle.text.specs.Laws.Written.{_then_, byte-reach, five-digits}
 use Rattle.sheet.proofs.put_corner.Statement.{statement}
 use Rattle.sheet.proofs.put_corner.Tie as tie
 

@@ -5,9 +5,9 @@ use native.Mathlib.Omega.{arith}
 use mathlib.Core.Path.{_≡_, refl, _∙_}
 use lib.ListN.{length, take}
 use borrow.Author.Needs.{needs}
-use Rattle.sheet.specs.Text.{Writes}
+use Rattle.text.specs.Text.{Writes}
 use Rattle.sheet.specs.Sheet.{cornersIn}
-use Rattle.sheet.specs.Laws.Written.{writes-length, writes-none, writes-join}
+use Rattle.text.specs.Laws.Written.{writes-length, writes-none, writes-join}
 use Rattle.sheet.specs.Laws.Lines.{corner-more}
 use Rattle.sheet.proofs.put_corners.Statement.{statement}
 use Rattle.sheet.proofs.put_corners.Tie as tie

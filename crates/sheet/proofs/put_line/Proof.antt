@@ -2,7 +2,7 @@
 -- Assumes nothing.
 use native.Mathlib.Omega.{arith}
 use borrow.Author.Needs.{needs}
-use Rattle.sheet.specs.Laws.Written.{reaches, _then_, byte-reach, three-digits, five-digits, writes-join}
+use Rattle.text.specs.Laws.Written.{reaches, _then_, byte-reach, three-digits, five-digits, writes-join}
 use Rattle.sheet.proofs.put_line.Statement.{statement}
 use Rattle.sheet.proofs.put_line.Tie as tie
 

@@ -6,7 +6,7 @@ use lib.ListN.{length, take}
 use lib.Seq.{length-take-le}
 use borrow.Author.Needs.{needs}
 use Rattle.sheet.specs.Sheet.{wireIn}
-use Rattle.sheet.specs.Laws.Written.{reaches, _then_, byte-reach, ten-digits, writes-none}
+use Rattle.text.specs.Laws.Written.{reaches, _then_, byte-reach, ten-digits, writes-none}
 use Rattle.sheet.specs.Laws.Lines.{wire-told}
 use Rattle.sheet.proofs.put_wire.Statement.{statement}
 use Rattle.sheet.proofs.put_wire.Tie as tie

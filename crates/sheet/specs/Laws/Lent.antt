@@ -12,7 +12,7 @@ use Rattle.paper.specs.declared.Record.{Record}
 use Rattle.paper.specs.declared.Reply.{Reply}
 use Rattle.paper.specs.Grid.{Node}
 use Rattle.paper.specs.Layout.{Layout}
-use Rattle.paper.specs.Answer.{Gives, checks, flat, written, Tells, Replies, Fed}
+use Rattle.paper.specs.Answer.{Gives, verdict, checks, flat, written, Tells, Replies, Fed}
 use Rattle.paper.specs.Laws.One.{one-reply}
 
 -- how many numbers the reply's corners take
@@ -78,7 +78,7 @@ fed-lent b bytes s s′ t r e (inr f) =
       f .2,
       f .3,
       record {
-        code = subst (λ m. Gives (checks (f .0) (f .1) m) (r .code)) e (g .code);
+        code = subst (λ m. Gives (checks (f .0) (f .1) m) (verdict r)) e (g .code);
         refused = λ n. tells-lent t (g .refused n);
         accepted = λ z. let a = g .accepted z in (a .0, a .1, tells-lent t (a .2));
       },

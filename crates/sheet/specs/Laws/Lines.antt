@@ -6,7 +6,7 @@ use mathlib.Core.Path.{_≡_, refl, ap, ap₂, _∙_}
 use mathlib.Core.List.{List, [], _∷_, _++_, append-assoc}
 use lib.ListN.{length, getD, take}
 use lib.Seq.{take-suc, length-take-le}
-use Rattle.sheet.specs.Text.{number, byte}
+use Rattle.text.specs.Text.{number, byte}
 use Rattle.sheet.specs.Sheet.{space, colon, cornersIn, wireIn}
 
 corners-join : (k : ℕ) (xs ys : List ℕ) → length xs ≡ k + k → cornersIn (xs ++ ys) ≡ cornersIn xs ++ cornersIn ys

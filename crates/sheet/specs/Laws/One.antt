@@ -17,10 +17,10 @@ use Rattle.paper.specs.Padding.{boardOf}
 use Rattle.paper.specs.Answer.{Fed}
 use Rattle.paper.specs.History.{Call, FedAll}
 use Rattle.sheet.specs.declared.Printed.{Printed}
-use Rattle.sheet.specs.Text.{number, byte, Spells}
+use Rattle.text.specs.Text.{number, byte, Spells}
 use Rattle.sheet.specs.Sheet.{space, line-end, wireIn, lineOf, lastLine, Pieces, linesFrom, SheetOf, Steps, StepsIn}
-use Rattle.sheet.specs.Laws.Spelling.{one-spelling}
-use Rattle.sheet.specs.Laws.Written.{one-put}
+use Rattle.text.specs.Laws.Spelling.{one-spelling}
+use Rattle.text.specs.Laws.Written.{one-put}
 use Rattle.sheet.specs.Laws.Lent.{count, one-told}
 
 -- ---- one line, one step

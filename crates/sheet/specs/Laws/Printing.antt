@@ -14,10 +14,10 @@ use Rattle.paper.specs.Grid.{All}
 use Rattle.paper.specs.Layout.{fresh}
 use Rattle.paper.specs.Padding.{boardOf}
 use Rattle.paper.specs.History.{Call, FedAll}
-use Rattle.sheet.specs.Text.{Spells}
+use Rattle.text.specs.Text.{Spells}
 use Rattle.sheet.specs.Sheet.{lineOf, lastLine, most-records, pieceAt, linesFrom, SheetOf, Steps, Stepped, Printing, linesOf}
 use Rattle.sheet.specs.Laws.Pieces.{below-or-not, length-piece}
-use Rattle.sheet.specs.Laws.Spelling.{spells-join}
+use Rattle.text.specs.Laws.Spelling.{spells-join}
 
 -- where n records end: 12 bytes each, or at the file's end
 abbrev EndsAt : List ℕ → ℕ → ℕ → Type 0

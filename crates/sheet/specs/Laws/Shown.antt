@@ -8,6 +8,7 @@ use mathlib.Core.List.{List, [], _∷_}
 use lib.ListN.{length}
 use Rattle.paper.specs.declared.Board.{Board}
 use Rattle.paper.specs.declared.Reply.{Reply}
+use Rattle.paper.specs.declared.Verdict.{Verdict}
 use Rattle.paper.specs.declared.Record.{Record}
 use Rattle.paper.specs.declared.Record.the-variants.{Bounds, KeepOut, Lay, Ask, TakeOut, Undo, Malformed}
 use Rattle.paper.specs.Grid.{Node, Dir}
@@ -15,7 +16,7 @@ use Rattle.paper.specs.Wire.{corners}
 use Rattle.paper.specs.Layout.{Layout}
 use Rattle.paper.specs.Padding.{WellFormed}
 use Rattle.paper.specs.Reading.{Reads}
-use Rattle.paper.specs.Answer.{Gives, checks, Outcome, Does, Replies, Fed}
+use Rattle.paper.specs.Answer.{Gives, verdict, checks, Outcome, Does, Replies, Fed}
 use Rattle.paper.specs.Laws.Read.{one-record}
 
 -- the record is a lay or an ask
@@ -83,14 +84,14 @@ corners-told b bytes s s′ rec r q (inr f) =
 
 -- ---- a piece that is not 12 bytes
 
-malformed : (l : Layout) (n k : ℕ) → Gives (checks l Malformed n) k → k ≡ 1
+malformed : (l : Layout) (n : ℕ) (v : Verdict) → Gives (checks l Malformed n) v → v .code ≡ 1
 unfolding Gives checks
-malformed l n k (inl g) = g .1
-malformed l n k (inr g) = absurd (g .0 tt)
+malformed l n v (inl g) = ap (λ v. v .code) (g .1)
+malformed l n v (inr g) = absurd (g .0 tt)
 
 pub short-code : (b : Board) (bytes s s′ : List ℕ) (r : Reply) → WellFormed b → ¬ (length bytes ≡ 12) → Fed b bytes s s′ r → r .code ≡ 1
 unfolding Fed Reads
 short-code b bytes s s′ r w n (inl f) = absurd (f .0 w)
 short-code b bytes s s′ r w n (inr f) =
     ⊎-elim (λ p. absurd (n (p .twelve)))
-    (λ e. malformed (f .0) (length s) (r .code) (subst (λ x. Gives (checks (f .0) x (length s)) (r .code)) (e .0) (f .4 .code))) (f .3)
+    (λ e. malformed (f .0) (length s) (verdict r) (subst (λ x. Gives (checks (f .0) x (length s)) (verdict r)) (e .0) (f .4 .code))) (f .3)

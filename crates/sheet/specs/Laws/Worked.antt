@@ -4,10 +4,10 @@ use Prim.Native.Nat.{ℕ}
 use mathlib.Core.Bool.{true, false}
 use mathlib.Core.List.{List, [], _∷_}
 use Rattle.paper.specs.Grid.{All}
-use Rattle.sheet.specs.Text.{Part, Spells}
+use Rattle.text.specs.Text.{Part, Spells}
 use Rattle.sheet.specs.Sheet.{cornersIn, wireIn, lineIn, lastLine}
-use Rattle.sheet.specs.Laws.Decimal.{digitsOf}
-use Rattle.sheet.specs.Laws.Spelling.{textOf, text-spells}
+use Rattle.text.specs.Laws.Decimal.{digitsOf}
+use Rattle.text.specs.Laws.Spelling.{textOf, text-spells}
 
 pub record Printed-as : Type 0 where
   pub parts : List Part

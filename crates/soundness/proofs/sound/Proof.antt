@@ -5,10 +5,9 @@ use lib.ListN.{length}
 use borrow.Author.Needs.{needs}
 use Rattle.paper.specs.Layout.{ItemsFit}
 use Rattle.paper.specs.Laws.Back.{layoutOf}
-use Rattle.paper.specs.Laws.Says.{says-as, says-always, says-never, said, said-not}
+use Rattle.paper.specs.Laws.Says.{says-as, says-always, says-never, said, said-not, denied, not-denied}
 use Rattle.paper.specs.Laws.Standing.{Standing, well-standing}
 use Rattle.items.specs.Laws.Arrays.{length-mapped}
-use Rattle.soundness.specs.Laws.Tests.{refused, passed}
 use Rattle.soundness.specs.Laws.Stands.{stands-whole}
 use Rattle.soundness.specs.Laws.Sound.{Unused, well-unused, well-laid, range-of, fits-of, undoes-of}
 use Rattle.soundness.proofs.sound.Statement.{statement}
@@ -22,7 +21,7 @@ long-changes c = search (needs, length-mapped)
 
 -- what is known after each test
 stood : (c : tie.Else1) → Standing (c .before .before .args .board)
-stood c = passed (c .before .stands .ensures) (c .if1 .left)
+stood c = not-denied (c .before .stands .ensures) (c .if1 .left)
 
 begun : (c : tie.Else2) → ¬ (Unused (c .before .before .before .before .args .board) (stood (c .before .before)))
 begun c = said-not (c .before .unused .ensures) (c .if2 .left)
@@ -31,13 +30,13 @@ fitted : (c : tie.Else4)
     → let b = c .before .before .before .before .before .before .before .before .before .args .board in
     ItemsFit (b .size) (layoutOf b .items)
 unfolding layoutOf
-fitted c = passed (c .before .items-fit .ensures) (c .if4 .left)
+fitted c = not-denied (c .before .items-fit .ensures) (c .if4 .left)
 
 stands-requires : tie.Need-stands-requires
 stands-requires c κs = search needs
 
 returns : tie.Need-returns
-returns c = says-never (λ w. refused (c .before .stands .ensures) (c .if1 .taken) (well-standing _ w))
+returns c = says-never (λ w. denied (c .before .stands .ensures) (c .if1 .taken) (well-standing _ w))
 
 unused-requires : tie.Need-unused-requires
 unused-requires c κs = search needs
@@ -51,7 +50,7 @@ in-range-requires c κs = search needs
 returns-3 : tie.Need-returns-3
 returns-3 c =
     let u = c .before .before in
-    says-never (λ w. refused (c .before .in-range .ensures) (c .if3 .taken) (range-of _ (stood (u .before .before)) (begun u) w))
+    says-never (λ w. denied (c .before .in-range .ensures) (c .if3 .taken) (range-of _ (stood (u .before .before)) (begun u) w))
 
 items-fit-requires : tie.Need-items-fit-requires
 items-fit-requires c κs =
@@ -62,7 +61,7 @@ returns-4 : tie.Need-returns-4
 unfolding layoutOf
 returns-4 c =
     let u = c .before .before .before .before .before in
-    says-never (λ w. refused (c .before .items-fit .ensures) (c .if4 .taken) (fits-of _ (stood (u .before .before)) (begun u) w))
+    says-never (λ w. denied (c .before .items-fit .ensures) (c .if4 .taken) (fits-of _ (stood (u .before .before)) (begun u) w))
 
 undone-in-turn-requires : tie.Need-undone-in-turn-requires
 undone-in-turn-requires c κs = (stood (c .before .before .before .before .before .before .before), fitted c)
@@ -72,7 +71,7 @@ returns-5 c =
     let r = c .before .before .before .before in
     let u = r .before .before in
     let s = u .before .before in
-    says-as (λ t. well-laid _ (stood s) (passed (r .before .in-range .ensures) (r .if3 .left)) (fitted (c .before)) t)
+    says-as (λ t. well-laid _ (stood s) (not-denied (r .before .in-range .ensures) (r .if3 .left)) (fitted (c .before)) t)
     (λ w. undoes-of _ (stood s) (begun u) w)
     (c .undone-in-turn .ensures)
 

@@ -17,12 +17,13 @@ use Rattle.paper.specs.Limits.{most-corners}
 use Rattle.paper.specs.Grid.{Node}
 use Rattle.paper.specs.Layout.{keep-out, wire, added, taken}
 use Rattle.paper.specs.Padding.{filled, itemOf, no-item, addedKind, changeOf}
-use Rattle.paper.specs.Laws.Back.{nodes, thingOf, turnOf}
+use Rattle.paper.specs.Laws.Back.{nodes, length-nodes, thingOf, turnOf}
 use Rattle.paper.specs.Laws.Among.{ltb-cases, eqb-cases}
 use Rattle.paper.specs.Laws.Says.{Says, says-as, says-never}
 use Rattle.items.specs.Items.{Whole, WholeChange}
 use Rattle.soundness.specs.Shape.{ZeroFrom}
-use Rattle.soundness.specs.Fitting.{rectOf, cornersOf}
+use Rattle.shapes.specs.Corners.{cornersOf}
+use Rattle.soundness.specs.Fitting.{rectOf}
 use Rattle.soundness.specs.Laws.Places.{zeros-filled, filled-zeros}
 
 -- ---- corners
@@ -39,12 +40,6 @@ nodes-ys [] [] e = refl
 nodes-ys [] (b ∷ bs) e = absurd (omega arith)
 nodes-ys (a ∷ us) [] e = absurd (omega arith)
 nodes-ys (a ∷ us) (b ∷ bs) e = ap (λ l. b ∷ l) (nodes-ys us bs (omega arith))
-
-pub length-nodes : (us bs : List ℕ) → length us ≡ length bs → length (nodes us bs) ≡ length us
-unfolding nodes
-length-nodes [] bs e = refl
-length-nodes (a ∷ us) [] e = absurd (omega arith)
-length-nodes (a ∷ us) (b ∷ bs) e = ap suc (length-nodes us bs (omega arith))
 
 first-two : (xs : List ℕ) → 2 ≤ length xs → take 2 xs ≡ getD xs 0 0 ∷ getD xs 1 0 ∷ []
 first-two [] h = absurd (omega arith)

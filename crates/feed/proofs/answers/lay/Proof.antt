@@ -2,12 +2,12 @@
 -- Assumes nothing.
 use native.Mathlib.Omega.{arith}
 use Prim.Native.Nat.{_≤_}
-use mathlib.Core.Path.{sym, subst, subst₂}
+use mathlib.Core.Path.{sym, ap, subst, subst₂}
 use mathlib.Core.List.{[], _∷_}
 use lib.ListN.{length}
 use types.Run.{miss}
 use borrow.Author.Needs.{needs}
-use Rattle.paper.specs.Answer.{Gives, BeforeBounds, Replies}
+use Rattle.paper.specs.Answer.{plain, Gives, BeforeBounds, Replies}
 use Rattle.paper.specs.Laws.Back.{layoutOf}
 use Rattle.feed.specs.Feeding.{lentChecks}
 use Rattle.feed.specs.Laws.Replying.{malformed-reply}
@@ -18,8 +18,8 @@ use Rattle.feed.proofs.answers.lay.Statement.{statement}
 use Rattle.feed.proofs.answers.lay.Tie as tie
 
 -- a slice of 50 numbers is lent, and the board has bounds
-lent : (e : tie.Else1) → let s = e .before .before .before .before .before .before in Gives (lentChecks (layoutOf (s .args .board)) (length (s .args .answer .now))) 0
-lent e = subst (Gives _) (e .if1 .left) (e .before .lent-code .ensures)
+lent : (e : tie.Else1) → let s = e .before .before .before .before .before .before in Gives (lentChecks (layoutOf (s .args .board)) (length (s .args .answer .now))) (plain 0)
+lent e = subst (Gives _) (ap plain (e .if1 .left)) (e .before .lent-code .ensures)
 
 bounded : (e : tie.Else1) → 1 ≤ e .before .before .before .before .before .before .args .board .size .w
 unfolding layoutOf

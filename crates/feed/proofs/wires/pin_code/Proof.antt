@@ -8,9 +8,9 @@ use Rattle.paper.specs.Answer.{Gives, source, target, OnBlock}
 use Rattle.paper.specs.Laws.Back.{layoutOf}
 use Rattle.paper.specs.Laws.Says.{Says, said, said-not, denied, not-denied}
 use Rattle.blocks.specs.declared.Look.the-variants.{Either}
+use Rattle.blocks.specs.Flat.{Hit}
 use Rattle.blocks.specs.Laws.Held.{held-fits}
-use Rattle.feed.specs.Feeding.{Hit}
-use Rattle.feed.specs.Laws.Wiring.{hit-blocked}
+use Rattle.feed.specs.Laws.Wiring.{hit-pin}
 use Rattle.feed.proofs.wires.pin_code.Statement.{statement}
 use Rattle.feed.proofs.wires.pin_code.Tie as tie
 
@@ -26,13 +26,13 @@ at-s : (h : tie.After-hit) → let s = h .before .before .before .before .before
     Says (h .hit .result) (OnBlock (layoutOf (s .args .board)) (source (s .args .p)))
 at-s h =
     let s = h .before .before .before .before .before .before .before in
-    hit-blocked (s .args .held) (layoutOf (s .args .board)) (s .pre .1) (source (s .args .p)) _ (subst (λ q. Hit (s .args .held) Either q (h .hit .result)) (h .before .before .here .ensures) (h .hit .ensures))
+    hit-pin (s .args .held) (layoutOf (s .args .board)) (s .pre .1) (source (s .args .p)) _ (subst (λ q. Hit (s .args .held) Either q (h .hit .result)) (h .before .before .here .ensures) (h .hit .ensures))
 
 at-t : (h : tie.After-hit2) → let s = h .before .before .before .before .before .before .before .before .before in
     Says (h .hit2 .result) (OnBlock (layoutOf (s .args .board)) (target (s .args .p)))
 at-t h =
     let s = h .before .before .before .before .before .before .before .before .before in
-    hit-blocked (s .args .held) (layoutOf (s .args .board)) (s .pre .1) (target (s .args .p)) _ (subst (λ q. Hit (s .args .held) Either q (h .hit2 .result)) (h .before .before .before .here2 .ensures) (h .hit2 .ensures))
+    hit-pin (s .args .held) (layoutOf (s .args .board)) (s .pre .1) (target (s .args .p)) _ (subst (λ q. Hit (s .args .held) Either q (h .hit2 .result)) (h .before .before .before .here2 .ensures) (h .hit2 .ensures))
 
 on-board-requires : tie.Need-on-board-requires
 on-board-requires c κs = search needs

@@ -1,9 +1,9 @@
 -- `feed::wires::wire` meets its contract: refused by its pins, or what the router answers.
 -- Assumes nothing.
 use native.Mathlib.Omega.{arith}
-use mathlib.Core.Path.{sym, subst, _∙_}
+use mathlib.Core.Path.{sym, ap, subst, _∙_}
 use borrow.Author.Needs.{needs}
-use Rattle.paper.specs.Answer.{Gives}
+use Rattle.paper.specs.Answer.{plain, Gives}
 use Rattle.paper.specs.Laws.Back.{layoutOf}
 use Rattle.blocks.specs.Laws.Held.{held-fits, count-held}
 use Rattle.feed.specs.Feeding.{Wires, startChecks}
@@ -32,7 +32,7 @@ unfolding layoutOf
 find-wire-requires c κs =
     let b = c .before .before .before in
     wire-asks _ (layoutOf (b .args .board)) _ (c .before .before .of-board .ensures) (laid-now _ (b .pre .0) (λ z. omega (arith, z, b .pre .1)) .range)
-    (subst (Gives (startChecks (layoutOf (b .args .board)) (b .args .p))) (c .if1 .left) (c .before .pin-code .ensures))
+    (subst (Gives (startChecks (layoutOf (b .args .board)) (b .args .p))) (ap plain (c .if1 .left)) (c .before .pin-code .ensures))
 
 mul-tell : tie.Need-mul-tell
 mul-tell c = let h = held-fits (c .before .before .before .of-board .ensures) .items-few in omega (arith, h)
@@ -51,7 +51,7 @@ returns-2 c =
     let b = o .before in
     subst (Wires (layoutOf (b .args .board)) (b .args .p)) (sym (c .tell .ensures))
     (wires-told _ (layoutOf (b .args .board)) _ _ _ (o .of-board .ensures)
-    (subst (Gives (startChecks (layoutOf (b .args .board)) (b .args .p))) (f .before .if1 .left) (f .before .before .pin-code .ensures)) (f .find-wire .ensures)
+    (subst (Gives (startChecks (layoutOf (b .args .board)) (b .args .p))) (ap plain (f .before .if1 .left)) (f .before .before .pin-code .ensures)) (f .find-wire .ensures)
     (count-held (o .of-board .ensures)))
 
 pub wire-spec : {M : Type 1} → statement M

@@ -8,11 +8,10 @@ use lib.ListN.{length}
 use borrow.Author.Needs.{needs}
 use Rattle.paper.specs.declared.Item.{Item}
 use Rattle.paper.specs.Layout.{ItemsFit}
-use Rattle.paper.specs.Laws.Says.{says-always}
+use Rattle.paper.specs.Laws.Says.{says-always, denied, not-denied}
 use Rattle.items.specs.Items.{Whole}
 use Rattle.items.specs.Laws.Arrays.{length-mapped}
 use Rattle.soundness.specs.Shape.{thingsOf}
-use Rattle.soundness.specs.Laws.Tests.{refused, passed}
 use Rattle.soundness.specs.Laws.Joined.{Tops, tops-none}
 use Rattle.soundness.specs.Laws.Front.{front-at, front-placed, fits-none, fits-stop, fits-not, fits-next}
 use Rattle.soundness.proofs.several.items_fit.Statement.{statement}
@@ -63,7 +62,7 @@ returns-2 c =
     let l = t .before in
     let a = l .before in
     fits-not (a .args .t2) (long a) none (a .args .n) (l .loop .i) (a .pre .few) (t .loop-test .taken) (a .args .size) (l .loop .last)
-    (refused (c .before .joins .ensures) (c .if2 .taken))
+    (denied (c .before .joins .ensures) (c .if2 .taken))
 
 add-i : tie.Need-add-i Inv-loop μ-loop
 add-i c = search needs
@@ -77,7 +76,7 @@ loop-again c =
     let l = t .before in
     let a = l .before in
     let r = fits-next (a .args .t2) (long a) none (a .args .n) (l .loop .i) (a .pre .few) (t .loop-test .taken) (a .args .size)
-    (l .loop .last) (l .loop .inv .1) (l .loop .inv .2) (omega (arith, c .before .before .if1 .left)) (passed (c .before .joins .ensures) (c .if2 .left)) in
+    (l .loop .last) (l .loop .inv .1) (l .loop .inv .2) (omega (arith, c .before .before .if1 .left)) (not-denied (c .before .joins .ensures) (c .if2 .left)) in
     (omega arith, r .0, r .1)
 
 returns-3 : tie.Need-returns-3 Inv-loop μ-loop

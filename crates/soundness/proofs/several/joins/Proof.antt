@@ -4,17 +4,16 @@ use Prim.Native.Nat.{ℕ, _≤_}
 use native.Mathlib.Omega.{arith}
 use mathlib.Core.Path.{_≡_}
 use borrow.Author.Needs.{needs}
-use Rattle.paper.specs.Laws.Says.{says-as, says-never}
+use Rattle.paper.specs.Laws.Says.{says-as, says-never, denied, not-denied}
 use Rattle.blocks.specs.Meeting.{Placed, blockNumber}
 use Rattle.blocks.specs.Laws.Meeting.{number-is, number-few}
-use Rattle.soundness.specs.Laws.Tests.{refused, passed}
 use Rattle.soundness.proofs.several.joins.Statement.{statement}
 use Rattle.soundness.proofs.several.joins.Tie as tie
 
 placed : (c : tie.Else1) → Placed (c .before .before .args .item)
 placed c =
     let a = c .before .before in
-    record { whole = a .pre .1; size = a .args .size; fits = passed (c .before .fits2 .ensures) (c .if1 .left) }
+    record { whole = a .pre .1; size = a .args .size; fits = not-denied (c .before .fits2 .ensures) (c .if1 .left) }
 
 few : (c : tie.Else1) (n : ℕ) → n ≡ blockNumber (c .before .before .args .item .runs) → n ≤ 24
 few c n e = omega (arith, number-few (c .before .before .args .item) (placed c))
@@ -23,7 +22,7 @@ fits-requires : tie.Need-fits-requires
 fits-requires c κs = search needs
 
 returns : tie.Need-returns
-returns c = says-never (λ j. refused (c .before .fits2 .ensures) (c .if1 .taken) (j .fits))
+returns c = says-never (λ j. denied (c .before .fits2 .ensures) (c .if1 .taken) (j .fits))
 
 total-requires : tie.Need-total-requires
 total-requires c κs = search needs
@@ -62,7 +61,7 @@ returns-3 c =
     let b = c .before .before in
     let e = b .before .before in
     says-as (λ a. record {
-      fits = passed (e .before .fits2 .ensures) (e .if1 .left);
+      fits = not-denied (e .before .fits2 .ensures) (e .if1 .left);
       apart = a;
       blocks-few = omega (
         arith,

@@ -5,11 +5,11 @@ use native.Mathlib.Omega.{arith}
 use mathlib.Core.Path.{_≡_}
 use lib.ListN.{length}
 use borrow.Author.Needs.{needs}
+use Rattle.paper.specs.Laws.Says.{denied, not-denied}
 use Rattle.paper.specs.Limits.{most-blocks}
 use Rattle.paper.specs.Padding.{itemOf, no-item}
 use Rattle.paper.specs.Laws.Back.{thingOf}
 use Rattle.items.specs.Laws.Arrays.{length-mapped}
-use Rattle.soundness.specs.Laws.Tests.{refused, passed}
 use Rattle.soundness.specs.Laws.Places.{StoodUpTo, stood-none, stood-more, stood-not, stood-all}
 use Rattle.soundness.proofs.shape.items_stand.Statement.{statement}
 use Rattle.soundness.proofs.shape.items_stand.Tie as tie
@@ -40,7 +40,7 @@ returns c =
     let l = c .before .before .before .before in
     let a = l .before in
     stood-not itemOf thingOf no-item most-blocks (a .args .n) (a .args .t1) (long a) (a .pre) _ (l .loop .i)
-    (c .before .before .before .loop-test .taken) (refused (c .before .item-place .ensures) (c .if1 .taken))
+    (c .before .before .before .loop-test .taken) (denied (c .before .item-place .ensures) (c .if1 .taken))
 
 add-i : tie.Need-add-i Inv-loop μ-loop
 add-i c = search needs
@@ -53,7 +53,7 @@ loop-again c =
     let l = c .before .before .before .before in
     let a = l .before in
     stood-more itemOf thingOf no-item most-blocks (a .args .n) (a .args .t1) (long a) (a .pre) _ (l .loop .i)
-    (c .before .before .before .loop-test .taken) (l .loop .inv) (passed (c .before .item-place .ensures) (c .if1 .left))
+    (c .before .before .before .loop-test .taken) (l .loop .inv) (not-denied (c .before .item-place .ensures) (c .if1 .left))
 
 returns-2 : tie.Need-returns-2 Inv-loop μ-loop
 returns-2 c =

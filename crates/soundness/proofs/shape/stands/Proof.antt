@@ -4,9 +4,8 @@ use native.Mathlib.Omega.{arith}
 use mathlib.Core.Path.{_≡_}
 use lib.ListN.{length}
 use borrow.Author.Needs.{needs}
-use Rattle.paper.specs.Laws.Says.{says-never}
+use Rattle.paper.specs.Laws.Says.{says-never, denied, not-denied}
 use Rattle.items.specs.Laws.Arrays.{length-mapped}
-use Rattle.soundness.specs.Laws.Tests.{refused, passed}
 use Rattle.soundness.specs.Laws.Stands.{count-few, kept-few, not-items, stands-said}
 use Rattle.soundness.proofs.shape.stands.Statement.{statement}
 use Rattle.soundness.proofs.shape.stands.Tie as tie
@@ -29,7 +28,7 @@ items-stand-requires c κs = search needs
 returns-3 : tie.Need-returns-3
 returns-3 c =
     let a = c .before .before .before .before .before in
-    says-never (not-items (a .args .board) (long-items a) (long-changes a) (refused (c .before .items-stand .ensures) (c .if3 .taken)))
+    says-never (not-items (a .args .board) (long-items a) (long-changes a) (denied (c .before .items-stand .ensures) (c .if3 .taken)))
 
 changes-stand-requires : tie.Need-changes-stand-requires
 changes-stand-requires c κs = search needs
@@ -40,7 +39,7 @@ returns-4 c =
     let k = i .before .before .before in
     let a = k .before .before in
     stands-said (a .args .board) (long-items a) (long-changes a) (k .before .if1 .left) (k .if2 .left) _
-    (passed (i .before .items-stand .ensures) (i .if3 .left)) (c .changes-stand .ensures)
+    (not-denied (i .before .items-stand .ensures) (i .if3 .left)) (c .changes-stand .ensures)
 
 pub stands-spec : {M : Type 1} → statement M
 stands-spec =

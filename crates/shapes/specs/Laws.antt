@@ -1,0 +1,3 @@
+-- What follows from the definitions: nothing here has to be believed.
+pub mod Corners
+pub mod Fits

@@ -1,0 +1,4 @@
+-- What the contracts say
+pub mod Text
+-- and what follows
+pub mod Laws
