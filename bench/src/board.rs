@@ -74,6 +74,16 @@ impl Board {
         self.router.node_blocked(p)
     }
 
+    /// The shortest wire between two nodes, whatever the number of its runs. None
+    /// if there is no such wire, or a node is off the board or blocked.
+    pub fn shortest(&mut self, s: Point, t: Point) -> Option<Wire> {
+        let frame = self.frame?;
+        if !(frame.holds(s) && frame.holds(t)) || self.node_blocked(s) || self.node_blocked(t) {
+            return None;
+        }
+        self.router.shortest(&frame, s, t)
+    }
+
     /// Takes one piece of a file. A refusal changes nothing.
     pub fn take(&mut self, piece: &[u8]) -> Answer {
         let outcome = match Record::read(piece) {
@@ -216,14 +226,14 @@ impl Board {
         Some(item)
     }
 
-    fn keepouts(&self) -> impl Iterator<Item = Rect> + '_ {
+    pub fn keepouts(&self) -> impl Iterator<Item = Rect> + '_ {
         self.items.values().filter_map(|item| match item {
             Item::Keepout(rect) => Some(*rect),
             Item::Wire(_) => None,
         })
     }
 
-    fn wires(&self) -> impl Iterator<Item = &Wire> + '_ {
+    pub fn wires(&self) -> impl Iterator<Item = &Wire> + '_ {
         self.items.values().filter_map(|item| match item {
             Item::Wire(wire) => Some(wire),
             Item::Keepout(_) => None,

@@ -1,26 +1,32 @@
 //! Compares the sheets of a program with the second router's, byte for byte.
+//!
+//! Two forms of files are compared, `Records` and `Drawn`; what differs between
+//! them is said by the trait `Form`, and all else is here once.
 
+mod drawn;
+mod form;
 mod plan;
+mod records;
 mod rival;
 mod show;
 mod shrink;
 mod wanted;
 
+use std::collections::BTreeMap;
 use std::fs;
+use std::marker::PhantomData;
 use std::path::PathBuf;
 use std::time::Duration;
 
-pub use plan::{files, Made};
-pub use rival::Rival;
+pub use drawn::Drawn;
+pub use form::{Form, Printed};
+pub use plan::Made;
+pub use records::Records;
+pub use rival::{Rival, Run};
 pub use show::Shown;
 pub use shrink::shrink;
-pub use wanted::{trackprint, Wanted};
+pub use wanted::Wanted;
 
-use crate::limits::RECORD_BYTES;
-use crate::tally::Tally;
-
-/// Records that are compared if nothing else is asked for.
-pub const DEFAULT_RECORDS: usize = 500_000;
 pub const DEFAULT_SEED: u64 = 1;
 /// How long a difference is shrunk at most.
 const PATIENCE: Duration = Duration::from_secs(60);
@@ -64,45 +70,54 @@ pub struct Difference {
     fault: Option<String>,
 }
 
-/// A difference, the file that showed it and the fewest records that do.
-pub struct Found {
+/// A difference, the file that showed it and the fewest pieces that do.
+pub struct Found<F> {
     source: String,
-    records: usize,
+    pieces: usize,
     whole: Difference,
     shrunk: Vec<u8>,
     least: Difference,
+    form: PhantomData<F>,
 }
 
 /// What was compared, up to the first difference.
-#[derive(Default)]
-pub struct Report {
+pub struct Report<F: Form = Records> {
     pub files: usize,
-    /// Those among them that are longer than a sheet.
-    pub cut: usize,
-    pub tally: Tally,
-    pub found: Option<Found>,
+    /// How many of the files end otherwise than in `end`, by their last word.
+    pub other_ends: BTreeMap<&'static str, usize>,
+    pub tally: F::Tally,
+    pub found: Option<Found<F>>,
+}
+
+impl<F: Form> Default for Report<F> {
+    fn default() -> Report<F> {
+        let (tally, other_ends) = (F::Tally::default(), BTreeMap::new());
+        Report { files: 0, other_ends, tally, found: None }
+    }
 }
 
 /// How far a comparison is.
-pub enum Step<'a> {
-    Compared(&'a Report),
+pub enum Step<'a, F: Form> {
+    Compared(&'a Report<F>),
     /// A difference was found in this file and is being shrunk.
     Shrinking(&'a str),
 }
 
 /// Compares the program's sheets with the second router's until one differs.
-pub fn compare(
+pub fn compare<F: Form>(
     rival: &Rival,
     sources: &[Source],
-    mut progress: impl FnMut(Step),
-) -> Result<Report, String> {
+    mut progress: impl FnMut(Step<F>),
+) -> Result<Report<F>, String> {
     let mut report = Report::default();
     for source in sources {
         let file = source.file()?;
-        let (mut tally, difference) = difference(rival, &file)?;
+        let (printed, difference) = difference::<F>(rival, &file)?;
         report.files += 1;
-        report.cut += usize::from(std::mem::take(&mut tally.cut));
-        report.tally.add(&tally);
+        if let Some(word) = printed.other_end {
+            *report.other_ends.entry(word).or_default() += 1;
+        }
+        F::add(&mut report.tally, &printed.tally);
         if let Some(whole) = difference {
             progress(Step::Shrinking(&source.name()));
             report.found = Some(found(rival, source.name(), &file, whole)?);
@@ -113,22 +128,24 @@ pub fn compare(
     Ok(report)
 }
 
-/// The first difference of a file's two sheets, and what its records come to.
-fn difference(rival: &Rival, file: &[u8]) -> Result<(Tally, Option<Difference>), String> {
-    let mut own = Vec::new();
-    let tally = Tally::printing(file, &mut own)
-        .map_err(|_| "memory cannot be read or written".to_string())?;
-    let run = rival.run(file)?;
-    if run.sheet == own && run.fault.is_none() {
-        return Ok((tally, None));
+/// What the second router prints for a file, and the first difference of the
+/// program's sheet from it.
+fn difference<F: Form>(
+    rival: &Rival,
+    file: &[u8],
+) -> Result<(Printed<F::Tally>, Option<Difference>), String> {
+    let printed = F::print(file);
+    let run = rival.run(file, F::split(file).len())?;
+    if run.sheet == printed.sheet && run.fault.is_none() {
+        return Ok((printed, None));
     }
-    let (own, other) = (lines(&own), lines(&run.sheet));
+    let (own, other) = (lines(&printed.sheet), lines(&run.sheet));
     let same = own.iter().zip(&other).take_while(|(own, other)| own == other).count();
     let line =
         |lines: &[&[u8]]| lines.get(same).map(|line| String::from_utf8_lossy(line).into_owned());
     let difference =
         Difference { line: same + 1, own: line(&own), other: line(&other), fault: run.fault };
-    Ok((tally, Some(difference)))
+    Ok((printed, Some(difference)))
 }
 
 /// The lines of a sheet, each with its line end if it has one.
@@ -136,15 +153,20 @@ fn lines(sheet: &[u8]) -> Vec<&[u8]> {
     sheet.split_inclusive(|&byte| byte == b'\n').collect()
 }
 
-fn found(rival: &Rival, source: String, file: &[u8], whole: Difference) -> Result<Found, String> {
-    let records = file.chunks(RECORD_BYTES).count();
-    let first = (whole.line <= records).then_some(whole.line);
+fn found<F: Form>(
+    rival: &Rival,
+    source: String,
+    file: &[u8],
+    whole: Difference,
+) -> Result<Found<F>, String> {
+    let pieces = F::split(file);
+    let first = F::piece_of_line(&pieces, whole.line).map(|index| index + 1);
     // A run that fails while shrinking shows nothing.
-    let differs = |file: &[u8]| matches!(difference(rival, file), Ok((_, Some(_))));
-    let shrunk = shrink(file, first, PATIENCE, differs);
-    let (_, least) = difference(rival, &shrunk)?;
+    let differs = |file: &[u8]| matches!(difference::<F>(rival, file), Ok((_, Some(_))));
+    let shrunk = shrink::<F>(file, first, PATIENCE, differs);
+    let (_, least) = difference::<F>(rival, &shrunk)?;
     let least = least.ok_or_else(|| {
         format!("{source}: the program differs in one run and not in the next on the same file")
     })?;
-    Ok(Found { source, records, whole, shrunk, least })
+    Ok(Found { source, pieces: pieces.len(), whole, shrunk, least, form: PhantomData })
 }

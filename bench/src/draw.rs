@@ -1,52 +1,17 @@
 //! A picture (SVG) of the board after a file. y points up.
 
+mod paper;
+
 use std::io::{self, Read};
 
 use crate::board::Board;
 use crate::code::Code;
-use crate::fault::Fault;
-use crate::geometry::{Point, Rect};
+use crate::geometry::Point;
 use crate::item::{Frame, Item};
 use crate::record::{Pins, Record};
 use crate::sheet::{Next, Pieces};
 use crate::wire::Wire;
-
-/// Length in pixels of the board's longer side, and the least of the shorter.
-const LONG_SIDE: f64 = 900.0;
-const LEAST_SIDE: f64 = 240.0;
-/// Room around the board, in pixels.
-const LEFT: f64 = 64.0;
-const RIGHT: f64 = 40.0;
-const ABOVE: f64 = 84.0;
-const BELOW: f64 = 92.0;
-/// How far a clearance box may be seen outside the board, in pixels.
-const OVERHANG: f64 = 16.0;
-/// The picture is never narrower: the title and the legend need the room.
-const LEAST_WIDTH: f64 = 620.0;
-/// Boards of up to this size show their unit grid.
-const MOST_GRID_LINES: i32 = 60;
-
-/// What the legend says of the last answer.
-const LAST_ANSWER: (&str, &str) = ("last", "last answer, from s to t");
-
-const STYLE: &str = "\
-text { font-family: 'DejaVu Sans', Verdana, sans-serif; fill: #22262b; }
-.title { font-size: 20px; font-weight: bold; }
-.note { font-size: 13px; fill: #555c66; }
-.label { font-size: 12px; text-anchor: middle; }
-.label { paint-order: stroke; stroke: #fff; stroke-width: 3px; }
-.wirename { fill: #14517e; }
-.board { fill: #fbf9f3; stroke: #22262b; stroke-width: 2; }
-.grid { stroke: #e4dfd1; stroke-width: 1; }
-.keepout { fill: #cfd4da; stroke: #666e78; stroke-width: 1.5; }
-.box { fill: #1b6ca8; }
-.wire { stroke: #1b6ca8; stroke-width: 3; }
-.last { stroke: #d4480b; stroke-width: 4; }
-.other { stroke: #7a2fa0; stroke-width: 4; stroke-dasharray: 9 9; }
-.wire, .last, .other { fill: none; stroke-linejoin: round; stroke-linecap: round; }
-.pin { fill: #fff; stroke: #d4480b; stroke-width: 3; }
-.pinname { font-size: 11px; font-weight: bold; text-anchor: middle; fill: #d4480b; }
-";
+use paper::{no_board, Paper};
 
 /// A board with the last wire that was answered on it.
 #[derive(Default)]
@@ -54,7 +19,12 @@ pub struct Scene {
     board: Board,
     last: Option<Wire>,
     /// Shown in the place of `last`, if there.
-    versus: Option<Versus>,
+    instead: Option<Instead>,
+}
+
+enum Instead {
+    Versus(Versus),
+    Drawn(Wire),
 }
 
 /// The answers of two routers to one record: corners, none without a wire.
@@ -83,7 +53,13 @@ impl Scene {
 
     /// The same board, with two answers in the place of the last one.
     pub fn with(mut self, versus: Versus) -> Scene {
-        self.versus = Some(versus);
+        self.instead = Some(Instead::Versus(versus));
+        self
+    }
+
+    /// The same board, with a drawn wire in the place of the last answer.
+    pub fn with_drawn(mut self, wire: Wire) -> Scene {
+        self.instead = Some(Instead::Drawn(wire));
         self
     }
 
@@ -108,38 +84,34 @@ impl Scene {
     }
 
     fn add_answer(&self, paper: &mut Paper) {
-        let pins = match (&self.versus, &self.last) {
-            (Some(versus), _) => {
-                paper.add_path("last", &versus.own);
-                paper.add_path("other", &versus.other);
-                paper.add_legend(&[("last", "second router"), ("other", "program")]);
-                versus.pins
+        let wire = match &self.instead {
+            Some(Instead::Versus(versus)) => return versus.add(paper),
+            Some(Instead::Drawn(wire)) => {
+                paper.add_legend(&[("last", "drawn wire, from s to t")]);
+                Some(wire)
             }
-            (None, Some(wire)) => {
-                paper.add_path("last", wire.corners());
-                paper.add_legend(&[LAST_ANSWER]);
-                Some(Pins { s: wire.start(), t: wire.end() })
-            }
-            (None, None) => {
-                paper.add_legend(&[LAST_ANSWER]);
-                None
+            None => {
+                paper.add_legend(&[("last", "last answer, from s to t")]);
+                self.last.as_ref()
             }
         };
-        if let Some(Pins { s, t }) = pins {
-            paper.add_pin(s, "s");
-            paper.add_pin(t, "t");
+        let corners = wire.map_or(&[][..], Wire::corners);
+        paper.add_path("last", corners);
+        if let [s, .., t] = *corners {
+            paper.add_pins(Pins { s, t });
         }
     }
 
     fn add_head(&self, frame: &Frame, paper: &mut Paper) {
         let title = format!("{} \u{d7} {}, clearance {}", frame.w, frame.h, frame.clearance);
-        paper.text(LEFT, 34.0, "title", &title);
+        paper.add_title(&title);
         let keepouts =
             self.board.items().filter(|(_, item)| matches!(item, Item::Keepout(_))).count();
         let wires = self.board.items().count() - keepouts;
         let mut note = format!("keep-outs: {keepouts}, wires: {wires}");
-        match (&self.versus, &self.last) {
-            (Some(_), _) => note += "; two answers that differ",
+        match (&self.instead, &self.last) {
+            (Some(Instead::Versus(_)), _) => note += "; two answers that differ",
+            (Some(Instead::Drawn(_)), _) => note += "; two verdicts that differ",
             (None, Some(wire)) => {
                 note +=
                     &format!("; last answer: length {}, detour {}", wire.length(), wire.detour())
@@ -149,184 +121,17 @@ impl Scene {
         if paper.stretched() {
             note += "; the axes differ in scale";
         }
-        paper.text(LEFT, 57.0, "note", &note);
+        paper.add_note(&note);
     }
 }
 
-fn no_board() -> String {
-    let text = "no board: no bounds were accepted";
-    let body = format!("<text x=\"{LEFT}\" y=\"55\" class=\"title\">{text}</text>\n");
-    picture(LEAST_WIDTH, 100.0, &body)
-}
-
-/// A whole picture of the given size.
-fn picture(wide: f64, high: f64, body: &str) -> String {
-    format!(
-        "<svg xmlns=\"http://www.w3.org/2000/svg\" width=\"{wide:.0}\" height=\"{high:.0}\" \
-         viewBox=\"0 0 {wide:.0} {high:.0}\">\n<style>\n{STYLE}</style>\n\
-         <rect width=\"100%\" height=\"100%\" fill=\"#fff\"/>\n{body}</svg>\n"
-    )
-}
-
-/// The picture while it is drawn, in pixels from the top left.
-struct Paper {
-    frame: Frame,
-    wide: f64,
-    high: f64,
-    body: String,
-}
-
-impl Paper {
-    fn new(frame: Frame) -> Paper {
-        let scale = LONG_SIDE / f64::from(frame.w.max(frame.h));
-        let side = |units: i32| (f64::from(units) * scale).max(LEAST_SIDE);
-        Paper { frame, wide: side(frame.w), high: side(frame.h), body: String::new() }
-    }
-
-    fn stretched(&self) -> bool {
-        let (x_scale, y_scale) =
-            (self.wide / f64::from(self.frame.w), self.high / f64::from(self.frame.h));
-        (x_scale - y_scale).abs() > 0.001 * x_scale
-    }
-
-    fn x(&self, x: i32) -> f64 {
-        LEFT + f64::from(x) / f64::from(self.frame.w) * self.wide
-    }
-
-    fn y(&self, y: i32) -> f64 {
-        ABOVE + self.high - f64::from(y) / f64::from(self.frame.h) * self.high
-    }
-
-    fn line(&mut self, line: &str) {
-        self.body += line;
-        self.body.push('\n');
-    }
-
-    fn text(&mut self, x: f64, y: f64, class: &str, text: &str) {
-        self.line(&format!("<text x=\"{x:.1}\" y=\"{y:.1}\" class=\"{class}\">{text}</text>"));
-    }
-
-    /// A rectangle in board units.
-    fn rect(&mut self, rect: Rect, class: &str) {
-        let (x, y) = (self.x(rect.x0), self.y(rect.y1));
-        self.pixels(x, y, self.x(rect.x1) - x, self.y(rect.y0) - y, class);
-    }
-
-    /// A rectangle in pixels.
-    fn pixels(&mut self, x: f64, y: f64, wide: f64, high: f64, class: &str) {
-        let place = format!("x=\"{x:.2}\" y=\"{y:.2}\" width=\"{wide:.2}\" height=\"{high:.2}\"");
-        self.line(&format!("<rect {place} class=\"{class}\"/>"));
-    }
-
-    /// The board, its grid if that is not too fine, the coordinates of its
-    /// corners, and the frame around it that clearance boxes may reach into.
-    fn add_board(&mut self) {
-        let Frame { w, h, .. } = self.frame;
-        self.line("<clipPath id=\"near\">");
-        let (wide, high) = (self.wide + 2.0 * OVERHANG, self.high + 2.0 * OVERHANG);
-        self.pixels(LEFT - OVERHANG, ABOVE - OVERHANG, wide, high, "near");
-        self.line("</clipPath>");
-        self.rect(self.frame.rect(), "board");
-        if w <= MOST_GRID_LINES && h <= MOST_GRID_LINES {
-            for x in 1..w {
-                self.add_grid_line(Point::new(x, 0), Point::new(x, h));
-            }
-            for y in 1..h {
-                self.add_grid_line(Point::new(0, y), Point::new(w, y));
-            }
+impl Versus {
+    fn add(&self, paper: &mut Paper) {
+        paper.add_path("last", &self.own);
+        paper.add_path("other", &self.other);
+        paper.add_legend(&[("last", "second router"), ("other", "program")]);
+        if let Some(pins) = self.pins {
+            paper.add_pins(pins);
         }
-        let (below, left) = (self.y(0) + OVERHANG + 16.0, self.x(0) - OVERHANG - 16.0);
-        self.text(self.x(0), below, "label", "0");
-        self.text(self.x(w), below, "label", &w.to_string());
-        self.text(left, self.y(0) + 4.0, "label", "0");
-        self.text(left, self.y(h) + 4.0, "label", &h.to_string());
-    }
-
-    fn add_grid_line(&mut self, from: Point, to: Point) {
-        let (x1, y1) = (self.x(from.x), self.y(from.y));
-        let (x2, y2) = (self.x(to.x), self.y(to.y));
-        self.line(&format!(
-            "<line x1=\"{x1:.2}\" y1=\"{y1:.2}\" x2=\"{x2:.2}\" y2=\"{y2:.2}\" class=\"grid\"/>"
-        ));
-    }
-
-    /// A keep-out, or the boxes around a wire. The boxes of one wire overlap;
-    /// as one translucent group they look like one.
-    fn add_blocks(&mut self, item: &Item) {
-        let frame = self.frame;
-        match item {
-            Item::Keepout(rect) => self.rect(*rect, "keepout"),
-            Item::Wire(_) => {
-                self.line("<g opacity=\"0.18\" clip-path=\"url(#near)\">");
-                for block in item.blocks(&frame, Fault::None) {
-                    self.rect(block, "box");
-                }
-                self.line("</g>");
-            }
-        }
-    }
-
-    fn add_path(&mut self, class: &str, corners: &[Point]) {
-        let corner = |p: &Point| format!("{:.2},{:.2}", self.x(p.x), self.y(p.y));
-        let corners: Vec<String> = corners.iter().map(corner).collect();
-        if corners.is_empty() {
-            return;
-        }
-        self.line(&format!("<polyline points=\"{}\" class=\"{class}\"/>", corners.join(" ")));
-    }
-
-    fn add_pin(&mut self, at: Point, name: &str) {
-        let (x, y) = (self.x(at.x), self.y(at.y));
-        self.line(&format!("<circle cx=\"{x:.2}\" cy=\"{y:.2}\" r=\"8\" class=\"pin\"/>"));
-        self.text(x, y + 4.0, "pinname", name);
-    }
-
-    /// The id in the middle of a keep-out, above one too small for it, or
-    /// beside the longest run of a wire.
-    fn add_id(&mut self, id: u16, item: &Item) {
-        let (place, class) = match item {
-            Item::Keepout(rect) => (*rect, "label"),
-            Item::Wire(wire) => {
-                let length = |run: &Rect| (run.x1 - run.x0).max(run.y1 - run.y0);
-                (wire.runs().max_by_key(length).expect("a wire has a run"), "label wirename")
-            }
-        };
-        let id = id.to_string();
-        let (x0, x1, y0, y1) =
-            (self.x(place.x0), self.x(place.x1), self.y(place.y1), self.y(place.y0));
-        let (x, y) = ((x0 + x1) / 2.0, (y0 + y1) / 2.0 + 4.0);
-        let half_text = 4.0 * id.len() as f64;
-        let (wide, high) = (x1 - x0, y1 - y0);
-        if wide > 2.0 * half_text && high > 10.0 {
-            self.text(x, y, class, &id);
-        } else if high > wide {
-            self.text(x1 + half_text + 6.0, y, class, &id);
-        } else {
-            self.text(x, y0 - 5.0, class, &id);
-        }
-    }
-
-    /// What the colours mean; `answers` are the classes of answered wires.
-    fn add_legend(&mut self, answers: &[(&str, &str)]) {
-        let y = ABOVE + self.high + 66.0;
-        self.pixels(LEFT, y - 11.0, 26.0, 14.0, "keepout");
-        self.text(LEFT + 34.0, y, "note", "keep-out");
-        let x = LEFT + 120.0;
-        self.line("<g opacity=\"0.18\">");
-        self.pixels(x, y - 11.0, 26.0, 14.0, "box");
-        self.line("</g>");
-        self.line(&format!("<path d=\"M{x} {} h26\" class=\"wire\"/>", y - 4.0));
-        self.text(x + 34.0, y, "note", "laid wire, clearance");
-        let mut x = x + 196.0;
-        for (class, about) in answers {
-            self.line(&format!("<path d=\"M{x} {} h26\" class=\"{class}\"/>", y - 4.0));
-            self.text(x + 34.0, y, "note", about);
-            x += 136.0;
-        }
-    }
-
-    fn finish(self) -> String {
-        let wide = (LEFT + self.wide + RIGHT).max(LEAST_WIDTH);
-        picture(wide, ABOVE + self.high + BELOW, &self.body)
     }
 }

@@ -55,17 +55,13 @@ fn clusters(blocks: &[Rect]) -> Vec<Rect> {
     let mut heaps: Vec<Vec<Rect>> = Vec::new();
     for &block in blocks {
         let (touching, mut rest): (Vec<_>, Vec<_>) =
-            heaps.into_iter().partition(|heap| heap.iter().any(|&other| touch(block, other)));
+            heaps.into_iter().partition(|heap| heap.iter().any(|&other| block.touches(other)));
         let mut heap: Vec<Rect> = touching.into_iter().flatten().collect();
         heap.push(block);
         rest.push(heap);
         heaps = rest;
     }
     heaps.iter().map(|heap| around(heap)).collect()
-}
-
-fn touch(a: Rect, b: Rect) -> bool {
-    a.x0 <= b.x1 && b.x0 <= a.x1 && a.y0 <= b.y1 && b.y0 <= a.y1
 }
 
 fn around(heap: &[Rect]) -> Rect {

@@ -1,4 +1,5 @@
-//! Random record files, for comparing one router with another.
+//! Random record files, for comparing one router with another, and (`drawn`)
+//! random files of records and drawn wires.
 //!
 //! A style repeats its episode, each on a board of its own, until the file is
 //! as long as wanted. The maker keeps a board beside the file, so that it can
@@ -6,6 +7,7 @@
 
 mod aim;
 mod broken;
+pub mod drawn;
 mod episodes;
 mod maker;
 mod maze;

@@ -94,6 +94,11 @@ impl Rect {
         self.x0 < other.x1 && other.x0 < self.x1 && self.y0 < other.y1 && other.y0 < self.y1
     }
 
+    /// Do the closed rectangles have a point in common?
+    pub fn touches(self, other: Rect) -> bool {
+        self.x0 <= other.x1 && other.x0 <= self.x1 && self.y0 <= other.y1 && other.y0 <= self.y1
+    }
+
     /// What two closed rectangles that touch have in common.
     pub fn common(self, other: Rect) -> Rect {
         Rect::new(

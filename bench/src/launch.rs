@@ -12,6 +12,7 @@ use std::path::{Path, PathBuf};
 use std::process::Command;
 
 use crate::kit;
+use crate::peer::bench_folder;
 
 /// Enough of a program for the list of its parts.
 const HEAD_BYTES: u64 = 4096;
@@ -70,6 +71,11 @@ impl Way {
             Way::Emulated(_) => format!("x86-64 emulated on {ARCH}, which says little"),
         }
     }
+}
+
+/// Where `rt check` leaves the proved program of a crate.
+pub fn proved(crate_name: &str) -> PathBuf {
+    bench_folder().with_file_name("target/bin").join(crate_name)
 }
 
 /// Fails if there is no such program; `crate_name` is the one it is made from.

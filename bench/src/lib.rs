@@ -2,12 +2,13 @@
 //!
 //! It is written from the customer's documents alone, so that another router
 //! can be compared with it byte for byte. "Document 01" in the comments is the
-//! page that gives the router's rules.
+//! page that gives the router's rules, "document 02" that of change requests.
 //!
 //! Read it in this order: `limits` and `geometry` name things, `record` reads
 //! twelve bytes, `board` keeps the items and decides the codes, `route` picks
-//! one of the two searches (`unit`, `wide`), `sheet` prints. The other tools are
-//! `generate`, `tally`, `text` and `draw`; `fault` is there for the tests only.
+//! one of the two searches (`unit`, `wide`), `sheet` prints. `drawn` judges wires
+//! drawn by hand. The other tools are `generate`, `tally`, `text` and `draw`;
+//! `fault` is there for the tests only.
 //! Another router's sheets are compared by `compare`, and `cases` makes a fixed
 //! file for it. Speed is measured by `question` (the file), `questions` (what is
 //! asked), `timing` and `sheet_timing`, beside the `peer`. `launch` starts other
@@ -18,6 +19,7 @@ pub mod cases;
 pub mod code;
 pub mod compare;
 pub mod draw;
+pub mod drawn;
 pub mod fault;
 pub mod generate;
 pub mod geometry;

@@ -1,4 +1,4 @@
-//! The numbers of document 01, each named once.
+//! The numbers of the documents, each named once.
 
 /// Bytes of one record.
 pub const RECORD_BYTES: usize = 12;
@@ -14,6 +14,10 @@ pub const MAX_BLOCKS: usize = 46;
 pub const MAX_RUNS: usize = 24;
 /// Changes kept for undo.
 pub const MAX_KEPT: usize = 32;
+/// Corners of a drawn wire; the fewest is 2.
+pub const MAX_CORNERS: usize = MAX_RUNS + 1;
+/// Pieces of a file with drawn wires that are read before it is cut.
+pub const MAX_PIECES: usize = 65_535;
 /// Numbers the sheet lends for an answer: x and y of each corner.
 pub const ANSWER_NUMBERS: usize = 50;
 /// Boards of up to this many nodes are searched node by node.
@@ -21,4 +25,4 @@ pub const UNIT_SEARCH_NODES: i64 = 4_000_000;
 
 // The lent numbers hold the longest wire that can be answered, so the sheet
 // never meets code 16.
-const _: () = assert!(2 * (MAX_RUNS + 1) <= ANSWER_NUMBERS);
+const _: () = assert!(2 * MAX_CORNERS <= ANSWER_NUMBERS);

@@ -1,4 +1,4 @@
-//! Records as readable text, one a line, and back.
+//! Records and drawn wires as readable text, one a line, and records back.
 
 use std::fmt::Write;
 
@@ -24,8 +24,14 @@ const FORMS: [Form; 6] = [
     Form { word: "undo", kind: 6, names: &[] },
 ];
 
-/// The word of a line that gives a piece byte by byte, in hexadecimal.
+/// The word of a line that gives a record byte by byte, in hexadecimal.
 const RAW: &str = "bytes";
+/// The word of a drawn wire, and of bytes that are no piece of a file with
+/// drawn wires, in hexadecimal. A record file has neither.
+pub const DRAW: &str = "draw";
+pub const REST: &str = "rest";
+/// A piece counts the numbers of a drawn wire in one byte.
+const MOST_NUMBERS: usize = u8::MAX as usize;
 
 /// A line that cannot be packed.
 #[derive(Debug, PartialEq, Eq)]
@@ -34,24 +40,64 @@ pub struct BadLine {
     pub what: String,
 }
 
-/// Turns text into records. Blank lines and what follows a `#` are skipped.
-pub fn pack(text: &[u8]) -> Result<Vec<u8>, BadLine> {
-    let mut file = Vec::new();
-    let mut short_line = None;
+/// A line that is not blank.
+pub struct Line<'a> {
+    /// From 1.
+    pub number: usize,
+    /// Without the comment.
+    pub words: Vec<&'a str>,
+    pub content: Content,
+}
+
+/// What a line stands for.
+pub enum Content {
+    /// Twelve bytes; the last record may have fewer.
+    Record(Vec<u8>),
+    Draw(Vec<u16>),
+    Rest(Vec<u8>),
+}
+
+/// Reads a text. Blank lines and what follows a `#` are skipped.
+pub fn read(text: &[u8]) -> Result<Vec<Line<'_>>, BadLine> {
+    let mut lines: Vec<Line> = Vec::new();
     for (index, line) in text.split(|&byte| byte == b'\n').enumerate() {
         let bad = |what| BadLine { line: index + 1, what };
         let words = words_of(line).map_err(bad)?;
         let Some((word, rest)) = words.split_first() else { continue };
-        if let Some(short) = short_line {
-            return Err(bad(format!(
-                "line {short} gave under {RECORD_BYTES} bytes, which only the last record may"
-            )));
+        let content = content(word, rest).map_err(bad)?;
+        if let Some(before) = lines.last() {
+            before.check_followed_by(&content).map_err(bad)?;
         }
-        let piece = pack_line(word, rest).map_err(bad)?;
-        if piece.len() < RECORD_BYTES {
-            short_line = Some(index + 1);
+        lines.push(Line { number: index + 1, words, content });
+    }
+    Ok(lines)
+}
+
+impl Line<'_> {
+    fn check_followed_by(&self, next: &Content) -> Result<(), String> {
+        let number = self.number;
+        match (&self.content, next) {
+            (Content::Record(bytes), _) if bytes.len() < RECORD_BYTES => Err(format!(
+                "line {number} gave under {RECORD_BYTES} bytes, which only the last record may"
+            )),
+            (Content::Rest(_), Content::Record(_) | Content::Draw(_)) => {
+                Err(format!("line {number} began the {REST}, so only more of it may follow"))
+            }
+            _ => Ok(()),
         }
-        file.extend(piece);
+    }
+}
+
+/// Turns text into records.
+pub fn pack(text: &[u8]) -> Result<Vec<u8>, BadLine> {
+    let mut file = Vec::new();
+    for Line { number, words, content } in read(text)? {
+        let Content::Record(bytes) = content else {
+            let what =
+                format!("a record file holds no '{}'; 'bench pack drawn' packs it", words[0]);
+            return Err(BadLine { line: number, what });
+        };
+        file.extend(bytes);
     }
     Ok(file)
 }
@@ -62,10 +108,27 @@ fn words_of(line: &[u8]) -> Result<Vec<&str>, String> {
     Ok(before_comment.split_ascii_whitespace().collect())
 }
 
-fn pack_line(word: &str, rest: &[&str]) -> Result<Vec<u8>, String> {
-    if word == RAW {
-        return pack_raw(rest);
+fn content(word: &str, rest: &[&str]) -> Result<Content, String> {
+    match word {
+        DRAW => drawn_numbers(rest).map(Content::Draw),
+        REST => raw_rest(rest).map(Content::Rest),
+        RAW => raw_record(rest).map(Content::Record),
+        _ => pack_record(word, rest).map(Content::Record),
     }
+}
+
+fn drawn_numbers(rest: &[&str]) -> Result<Vec<u16>, String> {
+    if rest.len() > MOST_NUMBERS {
+        return Err(format!("{DRAW} takes up to {MOST_NUMBERS} numbers, not {}", rest.len()));
+    }
+    let number = |(index, digits): (usize, &&str)| {
+        let name = ["x", "y"][index % 2];
+        number(&format!("{name} of corner {}", index / 2 + 1), digits)
+    };
+    rest.iter().enumerate().map(number).collect()
+}
+
+fn pack_record(word: &str, rest: &[&str]) -> Result<Vec<u8>, String> {
     let form = FORMS.iter().find(|form| form.word == word).ok_or_else(|| unknown(word))?;
     if rest.len() != form.names.len() {
         return Err(format!("{word} takes {}, not {}", listed(form.names), rest.len()));
@@ -73,8 +136,7 @@ fn pack_line(word: &str, rest: &[&str]) -> Result<Vec<u8>, String> {
     let mut fields = Fields { kind: form.kind, ..Fields::default() };
     let mut places = fields.numbers.iter_mut();
     for (name, digits) in form.names.iter().zip(rest) {
-        let number = decimal(digits)
-            .ok_or_else(|| format!("{name} is '{digits}', not a number from 0 to {}", u16::MAX))?;
+        let number = number(name, digits)?;
         if *name == ID {
             fields.id = number;
         } else {
@@ -93,25 +155,37 @@ fn listed(names: &[&str]) -> String {
 }
 
 fn unknown(word: &str) -> String {
-    let known: Vec<&str> = FORMS.iter().map(|form| form.word).chain([RAW]).collect();
+    let known: Vec<&str> = FORMS.iter().map(|form| form.word).chain([RAW, DRAW, REST]).collect();
     format!("unknown word '{word}'; known are {}", known.join(", "))
 }
 
-fn decimal(digits: &str) -> Option<u16> {
+fn number(name: &str, digits: &str) -> Result<u16, String> {
+    let plain = digits.bytes().all(|byte| byte.is_ascii_digit());
     // A sign would parse too, and does not belong here.
-    digits.bytes().all(|byte| byte.is_ascii_digit()).then(|| digits.parse().ok())?
+    let number = plain.then(|| digits.parse().ok()).flatten();
+    number.ok_or_else(|| format!("{name} is '{digits}', not a number from 0 to {}", u16::MAX))
 }
 
-fn pack_raw(rest: &[&str]) -> Result<Vec<u8>, String> {
+fn raw_record(rest: &[&str]) -> Result<Vec<u8>, String> {
     if rest.is_empty() || rest.len() > RECORD_BYTES {
         return Err(format!("{RAW} takes 1 to {RECORD_BYTES} bytes, not {}", rest.len()));
     }
-    rest.iter()
-        .map(|digits| {
-            hexadecimal(digits)
-                .ok_or_else(|| format!("'{digits}' is not a byte as two hexadecimal digits"))
-        })
-        .collect()
+    bytes(rest)
+}
+
+fn raw_rest(rest: &[&str]) -> Result<Vec<u8>, String> {
+    if rest.is_empty() {
+        return Err(format!("{REST} takes at least 1 byte"));
+    }
+    bytes(rest)
+}
+
+fn bytes(rest: &[&str]) -> Result<Vec<u8>, String> {
+    let byte = |digits: &&str| {
+        hexadecimal(digits)
+            .ok_or_else(|| format!("'{digits}' is not a byte as two hexadecimal digits"))
+    };
+    rest.iter().map(byte).collect()
 }
 
 fn hexadecimal(digits: &str) -> Option<u8> {
@@ -119,15 +193,16 @@ fn hexadecimal(digits: &str) -> Option<u8> {
     plain.then(|| u8::from_str_radix(digits, 16).ok())?
 }
 
-/// Turns any file into text that packs to the same bytes. A piece that isn't
-/// a record of a plain form is given byte by byte.
+/// Turns any file into text that packs to the same bytes.
 pub fn unpack(file: &[u8]) -> String {
-    let mut text = String::new();
-    for piece in file.chunks(RECORD_BYTES) {
-        text.push_str(&plain_line(piece).unwrap_or_else(|| raw_line(piece)));
-        text.push('\n');
-    }
-    text
+    let lines = file.chunks(RECORD_BYTES).map(|piece| record_line(piece) + "\n");
+    lines.collect()
+}
+
+/// A record as a line; bytes that are no record of a plain form are given one by
+/// one.
+pub fn record_line(piece: &[u8]) -> String {
+    plain_line(piece).unwrap_or_else(|| hexadecimal_line(RAW, piece))
 }
 
 fn plain_line(piece: &[u8]) -> Option<String> {
@@ -143,7 +218,7 @@ fn plain_line(piece: &[u8]) -> Option<String> {
     Some(line)
 }
 
-fn raw_line(piece: &[u8]) -> String {
-    let bytes: Vec<String> = piece.iter().map(|byte| format!("{byte:02x}")).collect();
-    format!("{RAW} {}", bytes.join(" "))
+pub fn hexadecimal_line(word: &str, bytes: &[u8]) -> String {
+    let bytes: Vec<String> = bytes.iter().map(|byte| format!("{byte:02x}")).collect();
+    format!("{word} {}", bytes.join(" "))
 }

@@ -2,7 +2,7 @@
 
 use std::fs;
 use std::io::Write;
-use std::path::{Path, PathBuf};
+use std::path::Path;
 use std::process::Stdio;
 use std::time::{Duration, Instant};
 
@@ -21,11 +21,6 @@ pub struct Times {
     pub program: f64,
     /// The slowest run of a program over its fastest; the greater of the two.
     pub spread: f64,
-}
-
-/// Where `rt check ask` leaves the proved program.
-pub fn proved_program() -> PathBuf {
-    bench_folder().with_file_name("target/bin/ask")
 }
 
 pub fn head(way: &Way) -> String {

@@ -2,13 +2,19 @@
 
 use crate::geometry::{Dir, Point, Rect};
 
-/// An answered wire as its corners: s, each turn, t.
+/// A wire as its corners: s, each turn, t.
 #[derive(Clone, PartialEq, Eq, Debug)]
 pub struct Wire {
     corners: Vec<Point>,
 }
 
 impl Wire {
+    /// A wire drawn by hand, from its numbers x, y, x, y, ...
+    pub fn drawn(numbers: &[u16]) -> Wire {
+        let corner = |pair: &[u16]| Point::new(i32::from(pair[0]), i32::from(pair[1]));
+        Wire { corners: numbers.chunks_exact(2).map(corner).collect() }
+    }
+
     pub fn corners(&self) -> &[Point] {
         &self.corners
     }

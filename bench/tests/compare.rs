@@ -7,7 +7,7 @@ use std::path::Path;
 use std::process::{Command, Output, Stdio};
 use std::time::Duration;
 
-use bench::compare::{compare, files, shrink, Report, Rival, Source};
+use bench::compare::{compare, shrink, Form, Made, Records, Report, Rival, Source};
 use bench::limits::{MAX_RECORDS, RECORD_BYTES};
 use bench::tally::Tally;
 use common::programs::{scratch, script};
@@ -21,6 +21,10 @@ fn bench_compare(program: &Path, args: &[&str]) -> Output {
 
 fn text(bytes: &[u8]) -> &str {
     std::str::from_utf8(bytes).expect("text")
+}
+
+fn files(records: usize, seed: u64) -> Vec<Made> {
+    Records::files(records, seed)
 }
 
 fn rival(name: &str, body: &str) -> Rival {
@@ -37,8 +41,8 @@ fn compared(rival: &Rival, records: usize) -> Report {
 fn shown(name: &str, rival: &Rival) -> String {
     let found = compared(rival, 200).found.unwrap_or_else(|| panic!("{name} went unnoticed"));
     let shown = found.show(&scratch(&format!("shown-{name}"))).expect("it can be shown");
-    assert_eq!(found.shrunk_records(), 0, "{name}");
-    assert!(shown.picture.is_file() && shown.records.is_file(), "{name}");
+    assert_eq!(found.shrunk_pieces(), 0, "{name}");
+    assert!(shown.picture.is_file() && shown.pieces.is_file(), "{name}");
     shown.text
 }
 
@@ -88,14 +92,14 @@ fn a_faulty_code_is_found_and_shrunk() {
     let report = compared(&rival("code.sh", "BENCH print | sed 's/ 15$/ 0/'"), 20_000);
     let found = report.found.expect("a difference");
     // Bounds, and an undo with nothing to undo.
-    assert_eq!(found.shrunk_records(), 2);
+    assert_eq!(found.shrunk_pieces(), 2);
 }
 
 /// What is only wrong after a long history takes that history to show.
 #[test]
 fn a_fault_that_needs_many_records_keeps_them() {
     let report = compared(&rival("late.sh", "BENCH print | sed '/^40 /s/ 0/ 7/'"), 3_000);
-    assert_eq!(report.found.expect("a difference").shrunk_records(), 40);
+    assert_eq!(report.found.expect("a difference").shrunk_pieces(), 40);
 }
 
 #[test]
@@ -195,7 +199,7 @@ fn a_long_comparison_has_files_at_the_sheets_end() {
 /// Shrinks by a rule in the place of a program.
 fn shrunk(records: &[Vec<u8>], first: Option<usize>, differs: impl Fn(&[u8]) -> bool) -> Vec<u8> {
     let patience = Duration::from_secs(60);
-    shrink(&records.concat(), first, patience, |file| differs(file))
+    shrink::<Records>(&records.concat(), first, patience, |file| differs(file))
 }
 
 fn holds(file: &[u8], record: &[u8]) -> bool {
@@ -214,7 +218,7 @@ fn shrinking_leaves_what_is_needed() {
     assert_eq!(shrunk(&records, None, all), expected);
     // Without patience nothing is tried but the cut after the record.
     let file = records.concat();
-    assert_eq!(shrink(&file, None, Duration::ZERO, all), file);
+    assert_eq!(shrink::<Records>(&file, None, Duration::ZERO, all), file);
 }
 
 /// Of a long history only what stands is needed, and that is seen at once.
@@ -229,7 +233,9 @@ fn shrinking_begins_with_what_stands() {
     // The keep-out must stand, whatever else does.
     let around = |file: &[u8]| sheet(file).contains(" 0 13 3 1:5 3:5 3:8 8:8 8:5\nend\n");
     let mut tries = 0;
-    let shrunk = shrink(&records.concat(), Some(records.len()), Duration::from_secs(60), |file| {
+    let file = records.concat();
+    let patience = Duration::from_secs(60);
+    let shrunk = shrink::<Records>(&file, Some(records.len()), patience, |file| {
         tries += 1;
         around(file)
     });

@@ -6,6 +6,7 @@ mod common;
 use bench::draw::{Scene, Versus};
 use bench::geometry::Point;
 use bench::record::Pins;
+use bench::wire::Wire;
 use common::{ask, bounds, keepout, lay};
 
 fn svg(records: &[Vec<u8>]) -> String {
@@ -80,6 +81,24 @@ fn two_answers_are_drawn() {
     assert_well_formed(&one);
     assert_eq!((lines(&one, "\"last\""), lines(&one, "\"other\"")), (0, 1));
     assert!(one.contains(">s<") && one.contains(">t<"));
+}
+
+#[test]
+fn a_drawn_wire_is_drawn() {
+    let file = [bounds(10, 10, 1), keepout(1, 3, 2, 6, 8), ask(0, 0, 9, 9)].concat();
+    let svg = |numbers: &[u16]| {
+        let scene = Scene::of(file.as_slice()).expect("memory can be read");
+        scene.with_drawn(Wire::drawn(numbers)).svg()
+    };
+    let pins = |svg: &str| svg.matches("class=\"pin\"").count();
+    let wire = svg(&[1, 5, 8, 5, 8, 9]);
+    assert_well_formed(&wire);
+    assert!(wire.contains(">drawn wire, from s to t<") && !wire.contains("last answer"));
+    assert_eq!((pins(&wire), wire.matches("<polyline ").count()), (2, 1));
+    // It may be no wire at all, or lie off the board.
+    for numbers in [&[][..], &[1], &[1, 5], &[0, 0, 65_535, 65_535]] {
+        assert_well_formed(&svg(numbers));
+    }
 }
 
 #[test]

@@ -185,9 +185,9 @@ fn a_difference_ends_the_timing() {
 fn a_late_difference_ends_the_timing() {
     let program = spoiled("late", "rep++", "rep += 2");
     let pair = Pair { peer: sound().to_path_buf(), program };
-    let told = timing::times(&pair, &questions_of("mid"), Duration::from_millis(20))
-        .err()
-        .expect("a difference");
+    // So long that even on a busy machine once is not enough. It ends at twice.
+    let run = Duration::from_secs(30);
+    let told = timing::times(&pair, &questions_of("mid"), run).err().expect("a difference");
     assert!(told.starts_with("with reps "), "{told}");
 }
 

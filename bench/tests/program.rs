@@ -108,10 +108,20 @@ fn draws() {
     assert_eq!(output.status.code(), Some(0));
 }
 
+/// Sees that a command line is refused with these words and the usage.
+fn assert_wrong(args: &[&str], what: &str) {
+    let output = run(args, b"");
+    assert_eq!(output.status.code(), Some(2), "{args:?}");
+    assert_eq!(output.stdout, b"", "{args:?}");
+    let told = text(&output.stderr);
+    assert!(told.starts_with(&format!("bench: {what}")), "{args:?} told {told}");
+    assert!(told.contains("\nusage: bench COMMAND"), "{args:?} told {told}");
+}
+
 #[test]
 fn a_wrong_command_line_shows_the_usage() {
-    let wrong: [(&[&str], &str); 21] = [
-        (&[], "no command"),
+    for (args, what) in [
+        (&[][..], "no command"),
         (&["paint"], "unknown command 'paint'"),
         (&["print", "x"], "print takes nothing"),
         (&["draw", "x"], "draw takes nothing"),
@@ -132,26 +142,54 @@ fn a_wrong_command_line_shows_the_usage() {
         (&["compare", "--records", "-1"], "--records is '-1', not a number"),
         (&["compare", "--seed", "one"], "--seed is 'one', not a number"),
         (&["compare", "--style", "small"], "compare does not know --style"),
-    ];
-    for (args, what) in wrong {
-        let output = run(args, b"");
-        assert_eq!(output.status.code(), Some(2), "{args:?}");
-        assert_eq!(output.stdout, b"", "{args:?}");
-        let told = text(&output.stderr);
-        assert!(told.starts_with(&format!("bench: {what}")), "{args:?} told {told}");
-        assert!(told.contains("\nusage: bench COMMAND"), "{args:?} told {told}");
+    ] {
+        assert_wrong(args, what);
     }
+}
+
+#[test]
+fn so_does_a_wrong_one_for_drawn_wires() {
+    for (args, what) in [
+        (&["print", "drawn", "x"][..], "print takes nothing"),
+        (&["pack", "x"], "pack takes nothing"),
+        (&["gen", "drawn", "1"], "gen drawn takes SEED STYLE [WIRES]"),
+        (&["gen", "drawn", "1", "tiny"], "unknown STYLE 'tiny'"),
+        (&["gen", "drawn", "1", "small", "x"], "WIRES is 'x'"),
+        (&["judge"], "judge takes [--program PROGRAM] FILE"),
+        (&["judge", "--program", "x"], "judge takes [--program PROGRAM] FILE"),
+        (&["compare", "drawn", "--wires", "-1"], "--wires is '-1', not a number"),
+        (&["compare", "drawn", "--records", "1"], "compare does not know --records"),
+    ] {
+        assert_wrong(args, what);
+    }
+}
+
+#[test]
+fn packs_prints_and_tallies_drawn_wires() {
+    let text_of = b"bounds 9 9 1\nkeepout 1 3 3 6 6\ndraw 0 4 9 4\ndraw 0 0 9 0\n";
+    let packed = run(&["pack", "drawn"], text_of);
+    assert_eq!(packed.stdout.len(), 2 * 13 + 2 * 10);
+    assert_eq!(run(&["unpack", "drawn"], &packed.stdout).stdout, text_of);
+    let printed = run(&["print", "drawn"], &packed.stdout);
+    assert_eq!(text(&printed.stdout), "1 20 1\n2 0 0\nend\n");
+    assert_eq!(printed.status.code(), Some(0));
+    let tally = run(&["tally", "drawn"], &packed.stdout);
+    assert!(text(&tally.stdout).starts_with("drawn wires 2\ncode 0: 1\n"));
+    let made = run(&["gen", "drawn", "1", "small", "50"], b"");
+    assert_eq!(run(&["print", "drawn"], &made.stdout).stdout.split(|b| *b == b'\n').count(), 52);
 }
 
 /// A directory can be opened but not read.
 #[test]
 fn a_failed_read_is_told() {
-    for command in ["print", "tally", "pack", "unpack", "draw"] {
+    let commands = ["print", "tally", "pack", "unpack", "draw"].map(|command| vec![command]);
+    let drawn = ["print", "tally", "pack", "unpack"].map(|command| vec![command, "drawn"]);
+    for command in commands.into_iter().chain(drawn) {
         let input = File::open(env!("CARGO_MANIFEST_DIR")).expect("it can be opened");
-        let output = bench(&[command]).stdin(input).output().expect("the program runs");
-        assert_eq!(output.stdout, b"", "{command}");
-        assert!(text(&output.stderr).starts_with(&format!("bench {command}: cannot read ")));
-        assert_eq!(output.status.code(), Some(1), "{command}");
+        let output = bench(&command).stdin(input).output().expect("the program runs");
+        assert_eq!(output.stdout, b"", "{command:?}");
+        assert!(text(&output.stderr).starts_with(&format!("bench {}: cannot read ", command[0])));
+        assert_eq!(output.status.code(), Some(1), "{command:?}");
     }
 }
 

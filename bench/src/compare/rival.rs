@@ -8,12 +8,11 @@ use std::thread;
 use std::time::{Duration, Instant};
 
 use crate::launch::Way;
-use crate::limits::RECORD_BYTES;
 use crate::scratch::Scratch;
 
-/// A program that takes longer is stopped: so long, and for each record.
+/// A program that takes longer is stopped: so long, and for each piece.
 const LONGEST_START: Duration = Duration::from_secs(20);
-const LONGEST_RECORD: Duration = Duration::from_millis(10);
+const LONGEST_PIECE: Duration = Duration::from_millis(10);
 /// A program that prints more than this for a line is stopped too; what comes
 /// after is not read.
 const LONGEST_LINE: u64 = 1_000;
@@ -48,9 +47,9 @@ impl Rival {
         Rival { longest_start, ..self }
     }
 
-    /// Runs the program on a file. Both ends are files, so that nothing is lost
-    /// if the program stops reading or does not stop printing.
-    pub fn run(&self, file: &[u8]) -> Result<Run, String> {
+    /// Runs the program on a file of so many pieces. Both ends are files, so that
+    /// nothing is lost if the program stops reading or does not stop printing.
+    pub fn run(&self, file: &[u8], pieces: usize) -> Result<Run, String> {
         let failed = |error| format!("cannot run {}: {error}", self.program.display());
         let input = self.scratch.write("stdin", file)?;
         let output = self.scratch.path("stdout");
@@ -62,18 +61,20 @@ impl Rival {
             .stderr(Stdio::null())
             .spawn()
             .map_err(failed)?;
-        let fault = self.wait(&mut child, &output, file);
+        // Each piece has a line at most, and there is a last one.
+        let lines = pieces + 1;
+        let fault = self.wait(&mut child, &output, lines);
         let mut sheet = Vec::new();
         let printed = File::open(&output).map_err(failed)?;
-        printed.take(most_bytes(file)).read_to_end(&mut sheet).map_err(failed)?;
+        printed.take(most_bytes(lines)).read_to_end(&mut sheet).map_err(failed)?;
         Ok(Run { sheet, fault })
     }
 
     /// Waits for the end; a program that goes on too long is stopped.
-    fn wait(&self, child: &mut Child, output: &Path, file: &[u8]) -> Option<String> {
+    fn wait(&self, child: &mut Child, output: &Path, lines: usize) -> Option<String> {
         let (start, mut look) = (Instant::now(), FIRST_LOOK);
-        let longest = self.longest_start + LONGEST_RECORD * lines(file) as u32;
-        let most = most_bytes(file);
+        let longest = self.longest_start + LONGEST_PIECE * lines as u32;
+        let most = most_bytes(lines);
         loop {
             match child.try_wait() {
                 Ok(None) => {}
@@ -98,14 +99,9 @@ impl Rival {
     }
 }
 
-/// The lines of a file's sheet, or a few more.
-fn lines(file: &[u8]) -> usize {
-    file.len().div_ceil(RECORD_BYTES) + 1
-}
-
-/// More than the sheet of a file can have.
-fn most_bytes(file: &[u8]) -> u64 {
-    LONGEST_LINE * lines(file) as u64
+/// More than a sheet of so many lines can have.
+fn most_bytes(lines: usize) -> u64 {
+    LONGEST_LINE * lines as u64
 }
 
 fn told(status: ExitStatus) -> Option<String> {

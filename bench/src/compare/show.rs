@@ -4,15 +4,10 @@ use std::fmt::Write;
 use std::fs;
 use std::path::{Path, PathBuf};
 
-use super::{Difference, Found, Report};
-use crate::draw::{Scene, Versus};
-use crate::geometry::Point;
-use crate::limits::RECORD_BYTES;
-use crate::record::{Pins, Record};
+use super::{Difference, Form, Found, Report};
 use crate::scratch::write;
-use crate::text::unpack;
 
-/// More records than this are not printed all, but only the last few.
+/// More pieces than this are not printed all, but only the last few.
 const MOST_SHOWN: usize = 400;
 const LAST_SHOWN: usize = 20;
 /// Characters of a line that are printed; a line of a sheet has fewer.
@@ -22,70 +17,72 @@ const LONGEST_SHOWN: usize = 500;
 pub struct Shown {
     pub text: String,
     pub picture: PathBuf,
-    pub records: PathBuf,
+    pub pieces: PathBuf,
 }
 
-impl Report {
+impl<F: Form> Report<F> {
     /// What was compared, as a tally.
     pub fn told(&self) -> String {
         let end = if self.found.is_some() { "a difference" } else { "no difference" };
-        let cut = if self.cut > 0 { format!(" ({} cut)", self.cut) } else { String::new() };
-        format!("files {}{cut}, {end}\n{}", self.files, self.tally)
+        let others: Vec<String> =
+            self.other_ends.iter().map(|(word, count)| format!("{count} {word}")).collect();
+        let others =
+            if others.is_empty() { String::new() } else { format!(" ({})", others.join(", ")) };
+        format!("files {}{others}, {end}\n{}", self.files, self.tally)
     }
 }
 
-impl Found {
-    /// Shows the difference; the picture and the records go to a folder.
+impl<F: Form> Found<F> {
+    /// Shows the difference; the picture and the pieces go to a folder.
     pub fn show(&self, folder: &Path) -> Result<Shown, String> {
         fs::create_dir_all(folder)
             .map_err(|error| format!("cannot make {}: {error}", folder.display()))?;
         let name = format!("difference-{}", self.source);
         let picture = folder.join(format!("{name}.svg"));
-        let records = folder.join(format!("{name}.rec"));
-        write(&records, &self.shrunk)?;
-        write(&picture, self.scene().svg().as_bytes())?;
+        let pieces = folder.join(format!("{name}.{}", F::ENDING));
+        write(&pieces, &self.shrunk)?;
+        write(&picture, self.picture().as_bytes())?;
         let mut text = self.text();
         let _ = writeln!(text, "picture {}", picture.display());
-        let _ = writeln!(text, "records {}", records.display());
-        Ok(Shown { text, picture, records })
+        let _ = writeln!(text, "{} {}", F::PIECES, pieces.display());
+        Ok(Shown { text, picture, pieces })
     }
 
-    /// How many records were left by shrinking.
-    pub fn shrunk_records(&self) -> usize {
-        self.shrunk.chunks(RECORD_BYTES).count()
+    /// How many pieces were left by shrinking.
+    pub fn shrunk_pieces(&self) -> usize {
+        F::split(&self.shrunk).len()
     }
 
     fn text(&self) -> String {
-        let Found { source, records, whole, .. } = self;
         format!(
-            "difference in {source}, {records} records\n{}\
-             the fewest records that show a difference: {}\n\n{}\n{}",
-            whole.text(),
-            self.shrunk_records(),
-            self.records_text(),
+            "difference in {}, {} {}\n{}the fewest {} that show a difference: {}\n\n{}\n{}",
+            self.source,
+            self.pieces,
+            F::PIECES,
+            self.whole.text(),
+            F::PIECES,
+            self.shrunk_pieces(),
+            self.pieces_text(),
             self.least.text()
         )
     }
 
-    /// The records as text; of very many only the last.
-    fn records_text(&self) -> String {
-        let count = self.shrunk_records();
-        if count <= MOST_SHOWN {
-            return unpack(&self.shrunk);
+    /// The pieces as text; of very many only the last.
+    fn pieces_text(&self) -> String {
+        let pieces = F::split(&self.shrunk);
+        if pieces.len() <= MOST_SHOWN {
+            return F::text(&self.shrunk);
         }
-        let left_out = count - LAST_SHOWN;
-        let rest = unpack(&self.shrunk[left_out * RECORD_BYTES..]);
-        format!("# {left_out} records before these are in the file below\n{rest}")
+        let left_out = pieces.len() - LAST_SHOWN;
+        let rest = F::text(&pieces[left_out..].concat());
+        format!("# {left_out} {} before these are in the file below\n{rest}", F::PIECES)
     }
 
-    /// The board before the record that differs, with both wires.
-    fn scene(&self) -> Scene {
-        let before = (self.least.line - 1).min(self.shrunk_records());
-        let file = &self.shrunk[..self.shrunk.len().min(before * RECORD_BYTES)];
-        let scene = Scene::of(file).expect("memory can be read");
-        let piece = self.shrunk.chunks(RECORD_BYTES).nth(before);
-        let (own, other) = (corners(&self.least.own), corners(&self.least.other));
-        scene.with(Versus { pins: piece.and_then(pins), own, other })
+    /// The board before the piece that differs, or after the whole file.
+    fn picture(&self) -> String {
+        let pieces = F::split(&self.shrunk);
+        let at = F::piece_of_line(&pieces, self.least.line).unwrap_or(pieces.len());
+        F::scene(&pieces[..at], pieces.get(at).copied(), &self.least).svg()
     }
 }
 
@@ -115,21 +112,4 @@ fn shortened(line: &str) -> String {
         None => line.to_string(),
         Some((end, _)) => format!("{}... ({} bytes)", &line[..end], line.len()),
     }
-}
-
-fn pins(piece: &[u8]) -> Option<Pins> {
-    match Record::read(piece)? {
-        Record::Lay { pins, .. } | Record::Ask { pins } => Some(pins),
-        _ => None,
-    }
-}
-
-/// The corners in a line of a sheet, as far as they can be read.
-fn corners(line: &Option<String>) -> Vec<Point> {
-    let corner = |word: &str| {
-        let (x, y) = word.split_once(':')?;
-        let number = |digits: &str| digits.parse::<u16>().ok().map(i32::from);
-        Some(Point::new(number(x)?, number(y)?))
-    };
-    line.iter().flat_map(|line| line.split_whitespace()).filter_map(corner).collect()
 }

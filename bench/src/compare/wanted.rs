@@ -2,12 +2,12 @@
 
 use std::path::{Path, PathBuf};
 
-use super::{files, Source, DEFAULT_RECORDS, DEFAULT_SEED};
-use crate::peer::bench_folder;
+use super::{Form, Source, DEFAULT_SEED};
+use crate::launch::proved;
 
 pub struct Wanted {
     pub program: PathBuf,
-    records: usize,
+    count: usize,
     seed: u64,
     named: Vec<PathBuf>,
 }
@@ -15,10 +15,10 @@ pub struct Wanted {
 impl Wanted {
     /// Reads options, each at most once counted (the last one stands), and the
     /// names of files.
-    pub fn read(args: &[&str]) -> Result<Wanted, String> {
+    pub fn read<F: Form>(args: &[&str]) -> Result<Wanted, String> {
         let mut wanted = Wanted {
-            program: trackprint(),
-            records: DEFAULT_RECORDS,
+            program: proved(F::PROGRAM),
+            count: F::DEFAULT_COUNT,
             seed: DEFAULT_SEED,
             named: Vec::new(),
         };
@@ -31,7 +31,7 @@ impl Wanted {
             let value = words.next();
             let value = || value.copied().ok_or_else(|| format!("{word} lacks its value"));
             match *word {
-                "--records" => wanted.records = number(word, value()?)?,
+                option if option == F::OPTION => wanted.count = number(word, value()?)?,
                 "--seed" => wanted.seed = number(word, value()?)?,
                 // A bare name is a file here, not a command to look for.
                 "--program" => wanted.program = Path::new(".").join(value()?),
@@ -42,9 +42,9 @@ impl Wanted {
     }
 
     /// The named files, or random ones if none is named.
-    pub fn sources(&self) -> Vec<Source> {
+    pub fn sources<F: Form>(&self) -> Vec<Source> {
         if self.named.is_empty() {
-            return files(self.records, self.seed).into_iter().map(Source::Made).collect();
+            return F::files(self.count, self.seed).into_iter().map(Source::Made).collect();
         }
         self.named.iter().cloned().map(Source::Named).collect()
     }
@@ -52,9 +52,4 @@ impl Wanted {
 
 fn number<T: std::str::FromStr>(word: &str, digits: &str) -> Result<T, String> {
     digits.parse().map_err(|_| format!("{word} is '{digits}', not a number"))
-}
-
-/// Where `rt check trackprint` leaves the proved program that prints sheets.
-pub fn trackprint() -> PathBuf {
-    bench_folder().with_file_name("target/bin/trackprint")
 }

@@ -14,7 +14,7 @@ impl Maker {
         self.board.frame().map_or((MAX_SIDE, MAX_SIDE), |frame| (frame.w, frame.h))
     }
 
-    fn frame(&self) -> Rect {
+    pub fn frame(&self) -> Rect {
         let (w, h) = self.size();
         Rect::new(0, 0, w, h)
     }
@@ -108,7 +108,7 @@ impl Maker {
         Pins { s: self.aimed_node(mix), t: self.aimed_node(mix) }
     }
 
-    fn aimed_node(&mut self, mix: &Mix) -> Point {
+    pub fn aimed_node(&mut self, mix: &Mix) -> Point {
         let (w, h) = self.size();
         let x = self.coordinate(mix, w, |block| [block.x0, block.x1]);
         let y = self.coordinate(mix, h, |block| [block.y0, block.y1]);

@@ -1,6 +1,7 @@
 //! What several test files need.
 #![allow(dead_code)] // each test file uses its own part
 
+pub mod drawn;
 pub mod naive;
 pub mod programs;
 

@@ -1,7 +1,10 @@
 //! The plainest router there is, written from document 01's sentences, for
 //! small boards. It shares no code with the bench: it reads the bytes itself,
 //! keeps whole lists of items to go back to, tests every unit edge against
-//! every block, and finds wires by comparing spelled words.
+//! every block, and finds wires by comparing spelled words. `drawn` judges wires
+//! drawn by hand, step by step.
+
+pub mod drawn;
 
 type Node = (i64, i64);
 
@@ -256,13 +259,10 @@ fn open_steps(size: Node, blocks: &[(Node, Node)]) -> Vec<Step> {
     steps
 }
 
-/// The first of the shortest words that lead from s to t. The lengths are
-/// improved edge by edge until nothing improves (Bellman and Ford); then the
-/// words are made, the short ones first. The first word from a node is the
-/// first among a step and the first word from the node after it.
-fn first_word(size: Node, blocks: &[(Node, Node)], s: Node, t: Node) -> Option<Vec<u8>> {
+/// The length of the shortest way to t from each node, row by row. It is improved
+/// edge by edge until nothing improves (Bellman and Ford).
+fn lengths(size: Node, steps: &[Step], t: Node) -> Vec<Option<usize>> {
     let index = |p: Node| (p.1 * (size.0 + 1) + p.0) as usize;
-    let steps = open_steps(size, blocks);
     let mut length: Vec<Option<usize>> = vec![None; index(size) + 1];
     length[index(t)] = Some(0);
     let mut improved = true;
@@ -277,6 +277,16 @@ fn first_word(size: Node, blocks: &[(Node, Node)], s: Node, t: Node) -> Option<V
             }
         }
     }
+    length
+}
+
+/// The first of the shortest words that lead from s to t. The words are made, the
+/// short ones first. The first word from a node is the first among a step and
+/// the first word from the node after it.
+fn first_word(size: Node, blocks: &[(Node, Node)], s: Node, t: Node) -> Option<Vec<u8>> {
+    let index = |p: Node| (p.1 * (size.0 + 1) + p.0) as usize;
+    let steps = open_steps(size, blocks);
+    let length = lengths(size, &steps, t);
     let mut by_length: Vec<Vec<&Step>> = vec![Vec::new(); length[index(s)]? + 1];
     for step in &steps {
         if let (Some(from), Some(to)) = (length[step.from], length[step.to]) {

@@ -152,7 +152,7 @@ fn upper(a: u16, b: u16) -> u16
 }
 
 // What lies between corners k and k + 1: a run of a wire, or a keep-out.
-fn stretch(item: Item, k: usize) -> Place
+pub fn stretch(item: Item, k: usize) -> Place
     requires { ⌜ k < most-runs ⌝ }
     ensures { λ r. ⌜ placeArea r ≡ stretchAt item k ⌝ }
 {

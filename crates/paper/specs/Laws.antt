@@ -35,3 +35,8 @@ pub mod Distances
 pub mod Feeds
 pub mod TableP
 pub mod Damaged
+-- wires drawn by hand
+pub mod Bent
+pub mod Walked
+pub mod Drawn
+pub mod Named

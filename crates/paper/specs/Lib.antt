@@ -9,5 +9,7 @@ pub mod Answer
 pub mod History
 pub mod TableP
 pub mod Copper
+-- document 02, in the order of its requests
+pub mod Drawn
 -- and what follows from it
 pub mod Laws

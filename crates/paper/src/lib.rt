@@ -86,3 +86,10 @@ pub struct Reply {
     pub corners: usize,
     pub board: Board,
 }
+
+// What is said of a wire drawn by hand: the first bad run, counted from 1; or by how many steps it is longer than a shortest one.
+pub struct Judged {
+    pub code: u8,
+    pub run: u8,
+    pub excess: u32,
+}

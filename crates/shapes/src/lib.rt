@@ -1,44 +1,73 @@
-// The shape of one wire, by the corners of its item: its runs along the axes and each across the one before, its ends, its corners on the board.
+// The shape of one wire, by the corners of its item: its ends, its runs along the axes and each across the one before, its length.
+use blocks::stretch;
 use paper::Item;
+use paper::MOST_CORNERS;
 use paper::Size;
 ghost use mathlib.Core.Path.{_≡_};
-ghost use Prim.Native.Nat.{_+_, _<_, _≤_, min, max};
+ghost use Prim.Native.Nat.{_+_, _<_, _≤_};
 ghost use Rattle.paper.specs.Limits.{most-corners, most-runs};
 ghost use Rattle.paper.specs.Grid.{All};
-ghost use Rattle.paper.specs.Wire.{runs};
-ghost use Rattle.paper.specs.Layout.{OnBoard, Along, Turning, EndsDiffer, WireFits};
+ghost use Rattle.paper.specs.Wire.{runs, manhattan};
+ghost use Rattle.paper.specs.Layout.{wire, OnBoard, Along, EndsDiffer, WireFits};
+ghost use Rattle.paper.specs.Padding.{itemOf};
+ghost use Rattle.paper.specs.Answer.{Gives};
+ghost use Rattle.paper.specs.Drawn.{drawn, CountFits, shapeChecks, formChecks, longOf};
 ghost use Rattle.paper.specs.Laws.Says.{Says};
-ghost use Rattle.blocks.specs.Growing.{stretchAt};
+ghost use Rattle.blocks.specs.Growing.{cornerAt, stretchAt};
 ghost use Rattle.shapes.specs.Corners.{axisFor, cornersOf};
+ghost use Rattle.shapes.specs.Faults.{faultOf, noFault, faultAt};
 
-// On one axis a and b are the same, on the other p and q are not.
-fn straight(a: u16, b: u16, p: u16, q: u16) -> bool
-    ensures { λ r. ⌜ Says r ((min a b ≡ max a b) × (min p q < max p q)) ⌝ }
-{
-    if a != b {
-        return false;
-    }
-    p != q
+// What is wrong with a wire: a code and the run that it is about, counted from 1; two zeros where nothing is.
+pub struct Fault {
+    pub code: u8,
+    pub run: u8,
 }
 
-// The run between corners k and k + 1 goes along the axis and is not empty.
-fn along(item: Item, k: usize, level: bool) -> bool
+fn no_fault() -> Fault
+    ensures { λ r. ⌜ r ≡ noFault ⌝ }
+{
+    Fault { code: 0, run: 0 }
+}
+
+// The code, about the run at k.
+pub fn fault_at(code: u8, k: usize) -> Fault
     requires { ⌜ k < most-runs ⌝ }
-    ensures { λ r. ⌜ Says r (Along (axisFor level) (stretchAt item k)) ⌝ }
+    ensures { λ r. ⌜ r ≡ faultAt code k ⌝ }
 {
-    let ax = item.xs[k];
-    let ay = item.ys[k];
-    let bx = item.xs[k + 1];
-    let by = item.ys[k + 1];
-    if level {
-        straight(ay, by, ax, bx)
-    } else {
-        straight(ax, bx, ay, by)
+    Fault {
+        code: code,
+        run: (k + 1) as u8,
     }
 }
+
+// ---- the corners
+
+// The numbers as the corners of an item, without an id.
+pub fn wire_of(numbers: &[u16]) -> Item
+    requires { ⌜ CountFits (now numbers) ⌝ }
+    ensures { λ r. ⌜ r ≡ itemOf (wire 0 (drawn (now (numbers .entry)))) ⌝ }
+{
+    let n = numbers.len() / 2;
+    let mut xs = [0u16; MOST_CORNERS];
+    let mut ys = [0u16; MOST_CORNERS];
+    let mut k: usize = 0;
+    while k < n {
+        xs[k] = numbers[k + k];
+        ys[k] = numbers[k + k + 1];
+        k += 1;
+    }
+    Item {
+        id: 0,
+        runs: (n - 1) as u8,
+        xs: xs,
+        ys: ys,
+    }
+}
+
+// ---- the ends and the runs
 
 // Corners 0 and n differ.
-pub fn ends_differ(item: Item, n: usize) -> bool
+fn ends_differ(item: Item, n: usize) -> bool
     requires { ⌜ n ≤ most-runs ⌝ }
     ensures { λ r. ⌜ Says r (EndsDiffer (cornersOf item (n + 1))) ⌝ }
 {
@@ -48,22 +77,58 @@ pub fn ends_differ(item: Item, n: usize) -> bool
     item.ys[0] != item.ys[n]
 }
 
-// The first of the item's n runs goes along the axis, and each across the one before.
-fn turning(item: Item, n: usize, level: bool) -> bool
-    requires { ⌜ n ≤ most-runs ⌝ }
-    ensures { λ r. ⌜ Says r (Turning (axisFor level) (runs (cornersOf item (n + 1)))) ⌝ }
+// On one axis a and b are the same, on the other p comes before q.
+fn straight(a: u16, b: u16, p: u16, q: u16) -> bool
+    ensures { λ r. ⌜ Says r ((a ≡ b) × (p < q)) ⌝ }
 {
-    let mut flat = level;
+    if a != b {
+        return false;
+    }
+    p < q
+}
+
+// The run between corners k and k + 1 goes along the axis and is not empty.
+fn along(item: Item, k: usize, level: bool) -> bool
+    requires { ⌜ k < most-runs ⌝ }
+    ensures { λ r. ⌜ Says r (Along (axisFor level) (stretchAt item k)) ⌝ }
+{
+    let run = stretch(item, k);
+    if level {
+        straight(run.y0, run.y1, run.x0, run.x1)
+    } else {
+        straight(run.x0, run.x1, run.y0, run.y1)
+    }
+}
+
+// The first of the item's n runs that is empty or slanted, or goes along the axis of the one before.
+fn bad_turn(item: Item, n: usize) -> Fault
+    requires { ⌜ n ≤ most-runs ⌝ }
+    ensures { λ r. ⌜ Gives (shapeChecks 1 (runs (cornersOf item (n + 1)))) (faultOf r) ⌝ }
+{
+    let mut flat = along(item, 0, true);
     let mut k: usize = 0;
     while k < n {
         if !along(item, k, flat) {
-            return false;
+            return fault_at(23, k);
         }
         flat = !flat;
         k += 1;
     }
-    true
+    no_fault()
 }
+
+// What is wrong with the shape of the item's n runs: equal ends, or the first bad run.
+pub fn bad_shape(item: Item, n: usize) -> Fault
+    requires { ⌜ n ≤ most-runs ⌝ }
+    ensures { λ r. ⌜ Gives (formChecks (cornersOf item (n + 1))) (faultOf r) ⌝ }
+{
+    if !ends_differ(item, n) {
+        return Fault { code: 10, run: 0 };
+    }
+    bad_turn(item, n)
+}
+
+// ---- on a board
 
 // The item's first n corners lie on the board.
 fn on_board(size: Size, item: Item, n: usize) -> bool
@@ -88,14 +153,33 @@ pub fn wire_fits(size: Size, item: Item, n: usize) -> bool
     requires { ⌜ (1 ≤ n) × (n ≤ most-runs) ⌝ }
     ensures { λ r. ⌜ Says r (WireFits size (cornersOf item (n + 1))) ⌝ }
 {
-    if !ends_differ(item, n) {
-        return false;
-    }
     if !on_board(size, item, n + 1) {
         return false;
     }
-    if turning(item, n, true) {
-        return true;
+    let fault = bad_shape(item, n);
+    fault.code == 0
+}
+
+// ---- the length
+
+fn run_long(item: Item, k: usize) -> u32
+    requires { ⌜ k < most-runs ⌝ }
+    ensures { λ r. ⌜ (r ≡ manhattan (cornerAt item k) (cornerAt item (k + 1))) × (r ≤ 131070) ⌝ }
+{
+    let run = stretch(item, k);
+    (run.x1 - run.x0) as u32 + (run.y1 - run.y0) as u32
+}
+
+// The length of the item's first n runs.
+pub fn long(item: Item, n: usize) -> u32
+    requires { ⌜ n ≤ most-runs ⌝ }
+    ensures { λ r. ⌜ r ≡ longOf (cornersOf item (n + 1)) ⌝ }
+{
+    let mut sum: u32 = 0;
+    let mut k: usize = 0;
+    while k < n {
+        sum += run_long(item, k);
+        k += 1;
     }
-    turning(item, n, false)
+    sum
 }

@@ -5,6 +5,7 @@
 //   bounds W H C               the record is fed to the board; so are keepout ID X0 Y0 X1 Y1, lay ID SX SY TX TY, ask SX SY TX TY, takeout ID, undo
 //   record KIND ID A B C D     the same of any six fields
 //   piece BYTE..               the same of 0 to 24 bytes
+//   wire X Y X Y ..           judged as a wire drawn by hand
 //   slice N                    from here on N numbers are lent, at most 60
 //   view                       prints the numbers that were lent last, as they stand now
 //   display                    prints the board
@@ -12,7 +13,8 @@
 //   Size W H C, Items N, Kept N, Put PLACE ID RUNS X:Y.., Change PLACE KIND ID RUNS X:Y..
 //                              written into the board, as a caller may hand in any
 // A record fed prints its number in the trial, code, length, detour, how many corners, the corners, `same` or `changed` for the board,
-// and `kept` if the numbers past the last corner are the marks that stood there before, else `touched`.
+// and `kept` if the numbers past the last corner are the marks that stood there before, else `touched`. A drawn wire prints `drawn`, its code,
+// run and excess.
 mod bytes;
 mod lent;
 mod numbers;

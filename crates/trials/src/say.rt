@@ -6,6 +6,7 @@ use crate::numbers::number;
 use libc::STDOUT_FILENO;
 use paper::Board;
 use paper::Item;
+use paper::Judged;
 use paper::MOST_BLOCKS;
 use paper::MOST_CORNERS;
 use paper::MOST_KEPT;
@@ -61,6 +62,14 @@ pub(crate) fn say_reply(reply: Reply, slice: [u16; MOST_LENT], same: bool) {
     } else {
         say(b" touched\n");
     }
+}
+
+pub(crate) fn say_judged(r: Judged) {
+    say(b"drawn");
+    say_next(r.code as u64);
+    say_next(r.run as u64);
+    say_next(r.excess as u64);
+    say(b"\n");
 }
 
 // A keep-out has two.

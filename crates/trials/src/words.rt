@@ -1,18 +1,23 @@
 // The words of the script.
+use crate::MOST_NUMBERS;
 use crate::Trial;
 use crate::bytes::bytes_of;
 use crate::bytes::low;
 use crate::feed_bytes;
 use crate::feed_record;
+use crate::least;
 use crate::numbers::Numbers;
 use crate::numbers::number;
 use crate::same::same_board;
 use crate::say::say;
 use crate::say::say_board;
+use crate::say::say_judged;
 use crate::say::say_slice;
+use drawn::judge;
 use paper::Board;
 use paper::Change;
 use paper::Item;
+use paper::Judged;
 use paper::MOST_BLOCKS;
 use paper::MOST_CORNERS;
 use paper::MOST_KEPT;
@@ -30,9 +35,23 @@ pub(crate) fn record_word(trial: Trial, word: u8, n: Numbers) -> Trial {
         b'u' => feed_record(trial, 6, 0, n, 0),
         b'r' => feed_record(trial, first, number(n, 1), n, 2),
         b'p' => feed_bytes(trial, bytes_of(n), n.count),
+        b'w' => draw(trial, n),
         b'#' => trial,
         _ => unknown(trial),
     }
+}
+
+// The wire that the first numbers draw.
+fn judged(board: Board, all: [u16; MOST_NUMBERS], count: usize) -> Judged {
+    let n = least(count, MOST_NUMBERS);
+    judge(board, &all[..n])
+}
+
+fn draw(trial: Trial, n: Numbers) -> Trial {
+    let board = trial.board;
+    let all = n.all;
+    say_judged(judged(board, all, n.count));
+    trial
 }
 
 fn unknown(trial: Trial) -> Trial {

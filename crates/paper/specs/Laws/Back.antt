@@ -49,7 +49,7 @@ layoutOf b = record {
   kept = reverse (map turnOf (take (b .kept) (b .changes)));
 }
 
-take-filled : {A B : Type 0} (f : A → B) (z : B) (n : ℕ) (xs : List A) (k : ℕ) → length xs ≡ k → take k (filled z n (map f xs)) ≡ map f xs
+pub take-filled : {A B : Type 0} (f : A → B) (z : B) (n : ℕ) (xs : List A) (k : ℕ) → length xs ≡ k → take k (filled z n (map f xs)) ≡ map f xs
 take-filled f z n xs k e = take-at (map f xs) (replicate (n - length (map f xs)) z) k (length-map xs f ∙ e)
 
 -- ---- one item, one change
@@ -59,7 +59,7 @@ unfolding runs
 length-runs p [] = refl
 length-runs p (q ∷ ps) = ap suc (length-runs q ps)
 
-nodes-back : (ps : List Node) → nodes (map (λ p. p .x) ps) (map (λ p. p .y) ps) ≡ ps
+pub nodes-back : (ps : List Node) → nodes (map (λ p. p .x) ps) (map (λ p. p .y) ps) ≡ ps
 unfolding nodes
 nodes-back [] = refl
 nodes-back (p ∷ ps) = ap (λ l. p ∷ l) (nodes-back ps)

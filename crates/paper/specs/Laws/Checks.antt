@@ -5,7 +5,7 @@ use Prim.Native.Nat.{ℕ, _≤_}
 use native.Mathlib.Omega.{arith}
 use mathlib.Core.Path.{_≡_, refl, sym, ap, _∙_}
 use mathlib.Core.Bool.{Bool, true, false, cond}
-use mathlib.Core.Logic.{inl, inr}
+use mathlib.Core.Logic.{_⊎_, inl, inr, ⊎-elim}
 use mathlib.Core.List.{List, [], _∷_, _++_}
 use lib.Dec.{eqb}
 use Rattle.paper.specs.declared.Verdict.{Verdict}
@@ -87,3 +87,25 @@ pub gives-then : (cs ds : List Check) (v : Verdict) → Clear cs → Gives ds v 
 unfolding Gives Clear
 gives-then [] ds v k h = h
 gives-then (c ∷ cs) ds v k h = inr (k .0, gives-then cs ds v (k .1) h)
+
+pub clear-join : (cs ds : List Check) → Clear cs → Clear ds → Clear (cs ++ ds)
+unfolding Clear
+clear-join [] ds k h = h
+clear-join (c ∷ cs) ds k h = (k .0, clear-join cs ds (k .1) h)
+
+pub clear-split : (cs ds : List Check) → Clear (cs ++ ds) → Clear cs × Clear ds
+unfolding Clear
+clear-split [] ds h = (tt, h)
+clear-split (c ∷ cs) ds h = let m = clear-split cs ds (h .1) in ((h .0, m .0), m .1)
+
+pub coded-join : (cs ds : List Check) → Coded cs → Coded ds → Coded (cs ++ ds)
+unfolding Coded
+coded-join [] ds k h = h
+coded-join (c ∷ cs) ds k h = (k .0, coded-join cs ds (k .1) h)
+
+-- what two lists give, the first gives, or the second where none of the first applies
+pub gives-either : (cs ds : List Check) (v : Verdict) → Gives (cs ++ ds) v → Gives cs v ⊎ (Clear cs × Gives ds v)
+unfolding Gives Clear
+gives-either [] ds v g = inr (tt, g)
+gives-either (c ∷ cs) ds v (inl g) = inl (inl g)
+gives-either (c ∷ cs) ds v (inr g) = ⊎-elim (λ h. inl (inr (g .0, h))) (λ h. inr ((g .0, h .0), h .1)) (gives-either cs ds v (g .1))

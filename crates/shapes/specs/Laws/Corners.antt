@@ -1,12 +1,11 @@
 -- The corners and runs of an item, place by place.
 -- Assumes nothing.
-use Prim.Native.Nat.{ℕ, zero, suc, _+_, _-_, _≤_, _<_}
+use Prim.Native.Nat.{ℕ, zero, suc, _+_, _≤_, _<_}
 use native.Mathlib.Omega.{arith}
 use native.Mathlib.Nat.{add-zero, zero-add}
 use native.Mathlib.Numerals.{add-one}
 use mathlib.Core.Path.{_≡_, refl, sym, ap, subst, _∙_}
 use mathlib.Core.Bool.{Bool, true, false, not}
-use mathlib.Core.Logic.{_↔_}
 use mathlib.Core.List.{List, [], _∷_}
 use lib.ListN.{length, getD, take}
 use lib.Seq.{length-take-le, getD-take}
@@ -14,9 +13,9 @@ use Rattle.paper.specs.declared.Item.{Item}
 use Rattle.paper.specs.Limits.{most-corners, most-runs}
 use Rattle.paper.specs.Grid.{Node, Area, All}
 use Rattle.paper.specs.Wire.{between, runs}
-use Rattle.paper.specs.Layout.{Along, across, Turning, lastOf, EndsDiffer}
+use Rattle.paper.specs.Layout.{Along, across, lastOf, EndsDiffer}
 use Rattle.paper.specs.Laws.Back.{nodes, length-nodes}
-use Rattle.paper.specs.Laws.Says.{Says, says-always, says-never}
+use Rattle.paper.specs.Laws.Says.{Says}
 use Rattle.blocks.specs.Flat.{listed}
 use Rattle.blocks.specs.Growing.{cornerAt, stretchAt}
 use Rattle.blocks.specs.Laws.Lists.{listed-is}
@@ -110,10 +109,6 @@ module _ (m : Item) (lx : length (m .xs) ≡ most-corners) (ly : length (m .ys) 
         ap runs (corners-one n few) ∙ runs-listed (cornerAt m) 0 n
         ∙ (λ i. listed (λ j. between (cornerAt m j) (cornerAt m (sym (add-one j) i))) 0 n)
 
--- those before k go along the axis and across each other; the next is to go along the axis that `flat` says
-unfoldable pub Turns : Item → ℕ → Bool → ℕ → Bool → Type 0
-Turns m n first k flat = Turning (axisFor first) (runs (cornersOf m (n + 1))) ↔ Turning (axisFor flat) (listed (stretchAt m) k (n - k))
-
 pub along-flat : (b : Bool) (a : Area) (r : Bool) → b ≡ true → Says r ((a .low .y ≡ a .high .y) × (a .low .x < a .high .x)) → Says r (Along (axisFor b) a)
 unfolding Along
 along-flat b a r e s = subst (λ b. Says r (Along (axisFor b) a)) (sym e) s
@@ -125,31 +120,3 @@ along-up b a r e s = subst (λ b. Says r (Along (axisFor b) a)) (sym e) s
 pub other-axis : (b : Bool) → across (axisFor b) ≡ axisFor (not b)
 other-axis true = refl
 other-axis false = refl
-
-module _ (m : Item) (n : ℕ) (first : Bool) where
-  pub turns-start : length (m .xs) ≡ most-corners → length (m .ys) ≡ most-corners → n ≤ most-runs → Turns m n first 0 first
-  unfolding Turns
-  turns-start lx ly h =
-      let z : n ≡ n - 0 = omega arith in
-      let e = runs-are m lx ly n h ∙ ap (listed (stretchAt m) 0) z in
-      (λ t. subst (Turning (axisFor first)) e t, λ t. subst (Turning (axisFor first)) (sym e) t)
-
-  module _ (k : ℕ) (flat : Bool) (t : Turns m n first k flat) where
-    ahead : k < n → listed (stretchAt m) k (n - k) ≡ stretchAt m k ∷ listed (stretchAt m) (k + 1) (n - (k + 1))
-    unfolding listed
-    ahead h = let e : n - k ≡ suc (n - (k + 1)) = omega arith in rw (e, add-one)
-
-    pub turns-next : k < n → Along (axisFor flat) (stretchAt m k) → Turns m n first (k + 1) (not flat)
-    unfolding Turns Turning
-    turns-next h a = (
-      λ q. subst (λ x. Turning x (listed (stretchAt m) (k + 1) (n - (k + 1)))) (other-axis flat) ((rw (ahead h) at (t .0 q)) .1),
-      λ q. t .1 (rw (ahead h) (a, subst (λ x. Turning x (listed (stretchAt m) (k + 1) (n - (k + 1)))) (sym (other-axis flat)) q)),
-    )
-
-    pub turns-stop : k < n → ¬ (Along (axisFor flat) (stretchAt m k)) → Says false (Turning (axisFor first) (runs (cornersOf m (n + 1))))
-    unfolding Turns Turning
-    turns-stop h a = says-never (λ q. a ((rw (ahead h) at (t .0 q)) .0))
-
-    pub turns-end : n ≤ k → Says true (Turning (axisFor first) (runs (cornersOf m (n + 1))))
-    unfolding Turns Turning listed
-    turns-end h = let e : n - k ≡ 0 = omega arith in says-always (t .1 (rw e tt))

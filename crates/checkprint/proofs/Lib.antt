@@ -1,0 +1,2 @@
+-- What several proofs share
+pub mod Stops

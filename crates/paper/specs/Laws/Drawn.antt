@@ -1,0 +1,246 @@
+-- A wire drawn by hand: what is said of it is determined, and it is accepted just if it is a legal wire. The answered wire exceeds by nothing.
+-- Assumes nothing.
+use Prim.Native.Nat.{ℕ, zero, suc, _+_, _≤_, _<_}
+use native.Mathlib.Omega.{arith}
+use mathlib.Core.Path.{_≡_, refl, sym, ap, subst, _∙_}
+use mathlib.Core.Bool.{Bool, true, false}
+use mathlib.Core.Logic.{_⊎_, inl, inr, ⊎-elim}
+use mathlib.Core.List.{List, [], _∷_, _++_}
+use lib.ListN.{length}
+use Rattle.paper.specs.declared.Board.{Board}
+use Rattle.paper.specs.declared.Judged.{Judged}
+use Rattle.paper.specs.Limits.{most-runs}
+use Rattle.paper.specs.Grid.{Node, Dir, step, level, upright, Grid, Free, Area, Block, Hits, Any, All, Blocked}
+use Rattle.paper.specs.Wire.{Legal, Answered, ToGo, turns, corners, between, runs}
+use Rattle.paper.specs.Layout.{Thing, keep-out, wire, Sort, keep-outs, wires, blocksOf, blocksTo, gridOf, OnBoard, Turning, lastOf, EndsDiffer, Layout, Laid}
+use Rattle.paper.specs.Padding.{WellFormed}
+use Rattle.paper.specs.Answer.{plain, Gives, Bars, flat}
+use Rattle.paper.specs.Drawn.{drawn, shapeChecks, runCheck, runChecks, cornerChecks, drawnChecks, longOf, Exceeds, judgement, JudgedOn, Judges}
+use Rattle.paper.specs.Laws.Says.{Says, says-and}
+use Rattle.paper.specs.Laws.Tests.{on-board-says}
+use Rattle.paper.specs.Laws.Lists.{any-split, any-left, any-right}
+use Rattle.paper.specs.Laws.Checks.{one-verdict, Coded, coded-join, Clear, clear-of, of-clear, clear-join, clear-split}
+use Rattle.paper.specs.Laws.Back.{one-layout, length-runs}
+use Rattle.paper.specs.Laws.Steps.{Inside, free-inside}
+use Rattle.paper.specs.Laws.Traced.{on-or-not, turns-on, turns-at, open-boxes, passed-all, answered-fits}
+use Rattle.paper.specs.Laws.Told.{answered-to-go}
+use Rattle.paper.specs.Laws.Bent.{straight-or, shape-turning, turning-shape, shape-coded, first-straight}
+use Rattle.paper.specs.Laws.Walked.{word, long-corners, last-turns}
+
+-- ---- one judgement
+
+pub one-to-go : (G : Grid) (t p : Node) (m n : ℕ) → ToGo G t p m → ToGo G t p n → m ≡ n
+one-to-go G t p m n a b = omega (arith, a .least (b .by) (b .legal), b .least (a .by) (a .legal), a .long, b .long)
+
+one-excess : (G : Grid) (ps : List Node) (m n : ℕ) → Exceeds G ps m → Exceeds G ps n → m ≡ n
+unfolding Exceeds
+one-excess G [] m n a b = absurd a
+one-excess G (p ∷ ps) m n a b = omega (arith, one-to-go G (lastOf p ps) p (a .0) (b .0) (a .1) (b .1), a .2, b .2)
+
+judged-same : (l : Layout) (ns : List ℕ) (r q : Judged) → JudgedOn l ns r → JudgedOn l ns q → r ≡ q
+judged-same l ns r q a b = go (r .code) refl
+  where
+    v : judgement r ≡ judgement q
+    v = one-verdict (drawnChecks l ns) (judgement r) (judgement q) (a .said) (b .said)
+
+    c : r .code ≡ q .code
+    c = ap (λ v. v .code) v
+
+    go : (k : ℕ) → r .code ≡ k → r ≡ q
+    go zero e =
+        let x : r .excess ≡ q .excess = one-excess _ (drawn ns) (r .excess) (q .excess) (a .accepted e) (b .accepted (sym c ∙ e)) in
+        λ i. record { code = v i .code; run = v i .place; excess = x i }
+    go (suc k) e =
+        let x : r .excess ≡ q .excess = a .refused (λ h. omega arith) ∙ sym (b .refused (λ h. omega (arith, c))) in
+        λ i. record { code = v i .code; run = v i .place; excess = x i }
+
+pub one-judged : (b : Board) (ns : List ℕ) (r q : Judged) → Judges b ns r → Judges b ns q → r ≡ q
+unfolding Judges WellFormed
+one-judged b ns r q (inl f) (inl g) = f .1 ∙ sym (g .1)
+one-judged b ns r q (inl f) (inr g) = absurd (f .0 (g .0, g .1))
+one-judged b ns r q (inr f) (inl g) = absurd (g .0 (f .0, f .1))
+one-judged b ns r q (inr f) (inr g) =
+    judged-same (g .0) ns r q (subst (λ l. JudgedOn l ns r) (one-layout b (f .0) (g .0) (f .1) (g .1)) (f .2)) (g .2)
+
+-- ---- what stands in a run's way
+
+module _ (l : Layout) (a : Area) where
+  sorted : (t : Thing) → Blocked (blocksOf (l .size .clearance) wires t) a → Bars l wires keep-outs a t ⊎ Bars l wires wires a t
+  unfolding Bars
+  sorted (keep-out i r) b = inl (refl, b)
+  sorted (wire i ps) b = inr (refl, b)
+
+  pub none-among : (ts : List Thing) → ¬ (Any (Bars l wires keep-outs a) ts) → ¬ (Any (Bars l wires wires a) ts) → ¬ (Blocked (blocksTo (l .size .clearance) wires ts) a)
+  unfolding Any blocksTo Blocked
+  none-among [] k w h = h
+  none-among (t ∷ ts) k w h =
+      ⊎-elim (λ b. ⊎-elim (λ x. k (inl x)) (λ x. w (inl x)) (sorted t b)) (λ b. none-among ts (λ x. k (inr x)) (λ x. w (inr x)) b)
+      (any-split (λ b. Hits b a) (blocksOf (l .size .clearance) wires t) (blocksTo (l .size .clearance) wires ts) h)
+
+  some-among : (of : Sort) (ts : List Thing) → Any (Bars l wires of a) ts → Blocked (blocksTo (l .size .clearance) wires ts) a
+  unfolding Any Bars blocksTo Blocked
+  some-among of [] h = h
+  some-among of (t ∷ ts) (inl s) = any-left (λ b. Hits b a) (blocksOf (l .size .clearance) wires t) (blocksTo (l .size .clearance) wires ts) (s .1)
+  some-among of (t ∷ ts) (inr h) = any-right (λ b. Hits b a) (blocksOf (l .size .clearance) wires t) (blocksTo (l .size .clearance) wires ts) (some-among of ts h)
+
+-- ---- the checks of the runs
+
+not-not : {b : Bool} {P : Type 0} → Says b P → ¬ (¬ P) → P
+not-not {b = true} s n = s .fact tt
+not-not {b = false} s n = absurd (n (s .test))
+
+module _ (l : Layout) where
+  abbrev bs : List Block
+  bs = blocksTo (l .size .clearance) wires (l .items)
+
+  on-both : (p q : Node) → ¬ (¬ (OnBoard (l .size) p × OnBoard (l .size) q)) → OnBoard (l .size) p × OnBoard (l .size) q
+  on-both p q n = not-not (says-and (on-board-says (l .size) p) (on-board-says (l .size) q)) n
+
+  pub runs-clear : (k : ℕ) (p q : Node) (ps : List Node) → Clear (runChecks l k (p ∷ q ∷ ps))
+      → All (OnBoard (l .size)) (p ∷ q ∷ ps) × All (λ r. ¬ (Blocked bs r)) (runs (p ∷ q ∷ ps))
+  unfolding Clear runChecks All runs
+  runs-clear k p q [] c =
+      let o = on-both p q (c .0) in
+      ((o .0, (o .1, tt)), (none-among l (between p q) (l .items) (c .1 .0) (c .1 .1 .0), tt))
+  runs-clear k p q (r ∷ ps) c =
+      let o = on-both p q (c .0) in
+      let m = runs-clear (suc k) q r ps (c .1 .1 .1) in
+      ((o .0, m .0), (none-among l (between p q) (l .items) (c .1 .0) (c .1 .1 .0), m .1))
+
+  clear-runs : (k : ℕ) (p : Node) (ps : List Node) → All (OnBoard (l .size)) (p ∷ ps) → All (λ r. ¬ (Blocked bs r)) (runs (p ∷ ps))
+      → Clear (runChecks l k (p ∷ ps))
+  unfolding Clear runChecks All runs
+  clear-runs k p [] o c = tt
+  clear-runs k p (q ∷ ps) o c =
+      (λ n. n (o .0, o .1 .0), (λ w. c .0 (some-among l (between p q) keep-outs (l .items) w), (λ w. c .0 (some-among l (between p q) wires (l .items) w), clear-runs (suc k) q ps (o .1) (c .1))))
+
+pub run-coded : (l : Layout) (k : ℕ) (ps : List Node) → Coded (runChecks l k ps)
+unfolding Coded runChecks
+run-coded l k [] = tt
+run-coded l k (p ∷ []) = tt
+run-coded l k (p ∷ q ∷ ps) = (omega arith, (omega arith, (omega arith, run-coded l (suc k) (q ∷ ps))))
+
+-- ---- the truth
+
+pub drawn-flat : (ps : List Node) → (drawn (flat ps) ≡ ps) × (length (flat ps) ≡ length ps + length ps)
+unfolding drawn flat
+drawn-flat [] = (refl, refl)
+drawn-flat (p ∷ ps) = let m = drawn-flat ps in (ap (λ l. p ∷ l) (m .0), omega (arith, m .1))
+
+-- every legal wire between different pins, of at most 24 runs, each across the one before, is accepted
+pub accepts-legal : (l : Layout) → Laid l → (s t : Node) (v : List Dir) → Legal (gridOf (l .size) (l .items)) s t v → ¬ (s ≡ t)
+    → length (runs (corners s v)) ≤ most-runs → Turning level (runs (corners s v)) ⊎ Turning upright (runs (corners s v))
+    → Gives (drawnChecks l (flat (corners s v))) (plain 0)
+unfolding Legal corners drawnChecks Clear EndsDiffer All
+accepts-legal l L s t [] legal two few turn = absurd (two legal)
+accepts-legal l L s t (d ∷ v) legal two few turn =
+    let o = open-boxes (l .size) (l .size .clearance) (l .items) (L .range .2 .0) (L .fits .each) in
+    let r = passed-all (l .size .w) (l .size .h) (blocksTo (l .size .clearance) wires (l .items)) t o s d v legal in
+    let i = free-inside (gridOf (l .size) (l .items)) s d (legal .0) .0 in
+    let ps : List Node = s ∷ turns d (step d s) v in
+    let n = length-runs s (turns d (step d s) v) in
+    let f = drawn-flat ps in
+    of-clear (drawnChecks l (flat ps)) ((
+      λ z. omega (arith, z, L .range .0 .0),
+      (
+        (length ps, omega (arith, r .some), omega (arith, n, few), f .1),
+        (
+          rw (f .0) (λ e. two (e ∙ r .last)),
+          rw (f .0) (clear-join (shapeChecks 1 (runs ps)) (runChecks l 1 ps) (⊎-elim (turning-shape level 1 (runs ps)) (turning-shape upright 1 (runs ps)) turn)
+              (clear-runs l 1 s (turns d (step d s) v) (i, r .inside) (r .clear))),
+        ),
+      ),
+    ))
+
+-- and what is accepted is such a wire, walked from its first corner to its last
+pub found : (l : Layout) (p q : Node) (ps : List Node) → Clear (shapeChecks 1 (runs (p ∷ q ∷ ps))) → Clear (runChecks l 1 (p ∷ q ∷ ps))
+    → (v : List Dir) × Legal (gridOf (l .size) (l .items)) p (lastOf p (q ∷ ps)) v × (corners p v ≡ p ∷ q ∷ ps) × (length v ≡ longOf (p ∷ q ∷ ps))
+unfolding runs
+found l p q ps c d =
+    let r = runs-clear l 1 p q ps d in
+    ⊎-elim (λ a. let w = word (l .size .w) (l .size .h) (bs l) level p q ps (shape-turning level 1 (between p q) (runs (q ∷ ps)) a c) (r .0) (r .1) in
+    (w .first ∷ w .rest, w .legal, w .corners-are, w .long))
+    (λ a. let w = word (l .size .w) (l .size .h) (bs l) upright p q ps (shape-turning upright 1 (between p q) (runs (q ∷ ps)) a c) (r .0) (r .1) in
+    (w .first ∷ w .rest, w .legal, w .corners-are, w .long))
+    (straight-or (between p q) (first-straight 1 (between p q) (runs (q ∷ ps)) c))
+
+-- ---- the excess
+
+module _ (G : Grid) where
+  exceeds : (s t : Node) (v : List Dir) (n : ℕ) → Legal G s t v → Exceeds G (corners s v) n → (m : ℕ) × ToGo G t s m × (length v ≡ m + n)
+  unfolding Exceeds corners Legal lastOf
+  exceeds s t [] n l x = (x .0, subst (λ u. ToGo G u s (x .0)) l (x .1), omega (arith, long-corners G s t [] l, x .2))
+  exceeds s t (d ∷ v) n l x =
+      (x .0, subst (λ u. ToGo G u s (x .0)) (last-turns G t d s (step d s) v (l .1)) (x .1), omega (arith, long-corners G s t (d ∷ v) l, x .2))
+
+-- a legal walk has just these corners, and it is n steps longer than a shortest one
+pub record Walk (l : Layout) (ps : List Node) (n : ℕ) : Type 0 where
+  pub from : Node
+  pub to : Node
+  pub two : ¬ (from ≡ to)
+  pub by : List Dir
+  pub legal : Legal (gridOf (l .size) (l .items)) from to by
+  pub corners-are : corners from by ≡ ps
+  pub shortest : ℕ
+  pub to-go : ToGo (gridOf (l .size) (l .items)) to from shortest
+  pub excess : length by ≡ shortest + n
+
+walked : (l : Layout) (ps : List Node) (n : ℕ) → 2 ≤ length ps → Clear (cornerChecks l ps) → Exceeds (gridOf (l .size) (l .items)) ps n → Walk l ps n
+unfolding Clear EndsDiffer Exceeds
+walked l [] n h c x = absurd (omega arith)
+walked l (p ∷ []) n h c x = absurd (omega arith)
+walked l (p ∷ q ∷ ps) n h c x =
+    let d = clear-split (shapeChecks 1 (runs (p ∷ q ∷ ps))) (runChecks l 1 (p ∷ q ∷ ps)) (c .1) in
+    let f = found l p q ps (d .0) (d .1) in
+    record {
+      from = p;
+      to = lastOf p (q ∷ ps);
+      two = c .0;
+      by = f .0;
+      legal = f .1;
+      corners-are = f .2;
+      shortest = x .0;
+      to-go = x .1;
+      excess = omega (arith, f .3, x .2);
+    }
+
+pub corner-coded : (l : Layout) (ps : List Node) → Coded (cornerChecks l ps)
+unfolding Coded
+corner-coded l ps = (omega arith, coded-join (shapeChecks 1 (runs ps)) (runChecks l 1 ps) (shape-coded 1 (runs ps)) (run-coded l 1 ps))
+
+pub length-drawn : (ns : List ℕ) (k : ℕ) → length ns ≡ k + k → length (drawn ns) ≡ k
+unfolding drawn
+length-drawn [] k e = omega arith
+length-drawn (x ∷ []) zero e = absurd (omega arith)
+length-drawn (x ∷ []) (suc k) e = absurd (omega arith)
+length-drawn (x ∷ y ∷ ns) zero e = absurd (omega arith)
+length-drawn (x ∷ y ∷ ns) (suc k) e = ap suc (length-drawn ns k (omega arith))
+
+-- what is accepted is such a walk
+pub accepted-walk : (l : Layout) (ns : List ℕ) (r : Judged) → JudgedOn l ns r → r .code ≡ 0 → Walk l (drawn ns) (r .excess)
+unfolding Clear Coded
+accepted-walk l ns r j z =
+    let c = clear-of (drawnChecks l ns) (judgement r) z (omega arith, (omega arith, corner-coded l (drawn ns))) (j .said) in
+    let k = c .1 .0 in
+    walked l (drawn ns) (r .excess) (omega (arith, k .1, length-drawn ns (k .0) (k .3))) (c .1 .1) (j .accepted z)
+
+-- a legal walk of few enough runs, each across the one before, drawn: accepted, and so much longer than a shortest one
+pub legal-accepted : (l : Layout) → Laid l → (s t : Node) (v : List Dir) → Legal (gridOf (l .size) (l .items)) s t v → ¬ (s ≡ t)
+    → length (runs (corners s v)) ≤ most-runs → Turning level (runs (corners s v)) ⊎ Turning upright (runs (corners s v))
+    → (r : Judged) → JudgedOn l (flat (corners s v)) r
+    → (judgement r ≡ plain 0) × (m : ℕ) × ToGo (gridOf (l .size) (l .items)) t s m × (length v ≡ m + r .excess)
+legal-accepted l L s t v legal two few turn r j =
+    let g = accepts-legal l L s t v legal two few turn in
+    let e : judgement r ≡ plain 0 = one-verdict (drawnChecks l (flat (corners s v))) (judgement r) (plain 0) (j .said) g in
+    let x = exceeds (gridOf (l .size) (l .items)) s t v (r .excess) legal (rw (drawn-flat (corners s v) .0) at (j .accepted (ap (λ v. v .code) e))) in
+    (e, x .0, x .1, x .2)
+
+-- the answered wire, drawn, exceeds by nothing
+pub answered-no-excess : (l : Layout) → Laid l → (s t : Node) (v : List Dir) → Answered (gridOf (l .size) (l .items)) s t v → ¬ (s ≡ t)
+    → length (runs (corners s v)) ≤ most-runs → (r : Judged) → JudgedOn l (flat (corners s v)) r → r ≡ record { code = 0; run = 0; excess = 0 }
+answered-no-excess l L s t v a two few r j =
+    let o = open-boxes (l .size) (l .size .clearance) (l .items) (L .range .2 .0) (L .fits .each) in
+    let w = answered-fits (l .size) (blocksTo (l .size .clearance) wires (l .items)) s t v o a two few in
+    let x = legal-accepted l L s t v (a .legal) two few (w .turning) r j in
+    let z : r .excess ≡ 0 = omega (arith, x .3, one-to-go _ t s (x .1) (length v) (x .2) (answered-to-go (gridOf (l .size) (l .items)) s t v a)) in
+    λ i. record { code = x .0 i .code; run = x .0 i .place; excess = z i }
