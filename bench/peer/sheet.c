@@ -1,7 +1,7 @@
-// The peer of trackprint: records on standard input, document 01's sheet on
-// standard output, as a good engineer would write it without proofs. It is only
-// timed beside the proved program and compared with the second router; no
-// expected output is made with it.
+// The peer of trackprint: records on standard input, document 01's sheet (with
+// document 02's order 2) on standard output, as a good engineer would write it
+// without proofs. It is only timed beside the proved program and compared with
+// the second router; no expected output is made with it.
 
 #include "search.h"
 
@@ -27,9 +27,10 @@ enum {
     MEETS_WIRE,
     PIN_OFF_BOARD,
     PINS_EQUAL,
-    PIN_BLOCKED,
+    PIN_IN_KEEPOUT,
     TOO_MANY_BLOCKS = 14,
     NOTHING_KEPT = 15,
+    PIN_NEAR_WIRE = 18,
 };
 
 enum { BOUNDS = 1, KEEPOUT, LAY, ASK, TAKE_OUT, UNDO };
@@ -60,6 +61,11 @@ static int has_bounds;
 static u16 clearance;
 static Item items[MAX_BLOCKS];
 static int item_count;
+
+// The pin and the item that the latest refusal with 11 or 18 tells.
+static struct {
+    u32 pin, id;
+} blocked;
 
 // A ring of kept changes; the latest is `kept_count` - 1 after the first.
 static Change kept[MAX_KEPT];
@@ -163,14 +169,39 @@ static u32 keep_out(const Record *r)
     return change_by_adding((Item){r->id, 0, 1}, &area);
 }
 
+// What is said of a pin: whether a keep-out blocks it, and if none does, whether
+// a wire does, each time with the smallest id. Most pins are free, which is seen
+// first.
+static u32 check_pin(u32 pin, int x, int y)
+{
+    if (!pin_blocked(&board, x, y))
+        return ACCEPTED;
+    u32 ids[2] = {0, 0}; // of a keep-out and of a wire, 0 if there is none
+    const Row *b = board.rows;
+    for (int i = 0; i < item_count; b += items[i++].count) {
+        u32 *id = &ids[items[i].is_wire];
+        if (*id != 0 && *id < items[i].id)
+            continue;
+        for (int j = 0; j < items[i].count; j++)
+            if (in_box(&b[j], x, y))
+                *id = items[i].id;
+    }
+    blocked.pin = pin;
+    blocked.id = ids[0] != 0 ? ids[0] : ids[1];
+    return ids[0] != 0 ? PIN_IN_KEEPOUT : PIN_NEAR_WIRE;
+}
+
 static u32 ask(const Record *r, Answer *a)
 {
     if (r->a > board.w || r->b > board.h || r->c > board.w || r->d > board.h)
         return PIN_OFF_BOARD;
     if (r->a == r->c && r->b == r->d)
         return PINS_EQUAL;
-    if (pin_blocked(&board, r->a, r->b) || pin_blocked(&board, r->c, r->d))
-        return PIN_BLOCKED;
+    u32 code = check_pin(1, r->a, r->b);
+    if (code == ACCEPTED)
+        code = check_pin(2, r->c, r->d);
+    if (code != ACCEPTED)
+        return code;
     board.sx = r->a;
     board.sy = r->b;
     board.tx = r->c;
@@ -315,19 +346,25 @@ static void put_number(u32 number)
         put(digits[--count]);
 }
 
+static void put_next(u32 number)
+{
+    put(' ');
+    put_number(number);
+}
+
 static void put_line(u32 number, u32 code, const Answer *a)
 {
     put_number(number);
-    put(' ');
-    put_number(code);
+    put_next(code);
+    if (code == PIN_IN_KEEPOUT || code == PIN_NEAR_WIRE) {
+        put_next(blocked.pin);
+        put_next(blocked.id);
+    }
     if (code == ACCEPTED && a->count > 0) {
-        put(' ');
-        put_number(a->length);
-        put(' ');
-        put_number(a->detour);
+        put_next(a->length);
+        put_next(a->detour);
         for (u32 i = 0; i < a->count; i++) {
-            put(' ');
-            put_number(a->x[i]);
+            put_next(a->x[i]);
             put(':');
             put_number(a->y[i]);
         }

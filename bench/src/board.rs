@@ -2,6 +2,7 @@
 
 use std::collections::{BTreeMap, VecDeque};
 
+use crate::blocked::{self, Blocker};
 use crate::code::Code;
 use crate::fault::Fault;
 use crate::geometry::{Point, Rect};
@@ -72,6 +73,12 @@ impl Board {
         let Some(frame) = self.frame else { return false };
         self.router.prepare(&frame, self.items.values());
         self.router.node_blocked(p)
+    }
+
+    /// The items that block the node, by rising id.
+    pub fn blockers(&self, p: Point) -> Vec<Blocker> {
+        let Some(frame) = self.frame else { return Vec::new() };
+        blocked::blockers(&self.items, &frame, p, Fault::None)
     }
 
     /// The shortest wire between two nodes, whatever the number of its runs. None
@@ -160,10 +167,10 @@ impl Board {
         if s == t {
             return Err(Code::PinsEqual);
         }
-        self.router.prepare(frame, self.items.values());
-        if self.router.node_blocked(s) || self.router.node_blocked(t) {
-            return Err(Code::PinBlocked);
+        if let Some(code) = blocked::refusal(&self.items, frame, pins, self.router.fault()) {
+            return Err(code);
         }
+        self.router.prepare(frame, self.items.values());
         let wire = self.router.shortest(frame, s, t).ok_or(Code::NoWire)?;
         if wire.run_count() > MAX_RUNS {
             return Err(Code::TooManyRuns);

@@ -1,4 +1,5 @@
-//! The fixed case file: records of every style and the sheet they come to.
+//! The fixed case file: records of every style but `pins`, and the sheet they
+//! come to. The other styles have enough blocked pins to tell wrong readings.
 //!
 //! It is one file from one seed, so that another router can be held to it
 //! without the bench.

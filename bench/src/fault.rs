@@ -1,10 +1,13 @@
 //! Faults that the tests plant on purpose, to show that they would be noticed.
 //!
 //! The program always runs with `Fault::None`; only tests pass another one.
-//! They are the four ways astray that document 01 names.
+//! They are the four ways astray that document 01 names, and wrong readings of
+//! document 02's order 2.
 
+use crate::blocked::Order;
 use crate::geometry::Rect;
-use crate::item::Frame;
+use crate::item::{Frame, Sort};
+use crate::record::Pins;
 
 #[derive(Clone, Copy, PartialEq, Eq, Debug, Default)]
 pub enum Fault {
@@ -19,9 +22,32 @@ pub enum Fault {
     /// A take-out clears the marks of its room, also where a neighbour's box
     /// covers the same room.
     ClearedMarks,
+    /// Of several items that block a pin, the largest id is told.
+    LargestId,
+    /// Of a pin that items of both sorts block, the smallest id of all is told.
+    AnySort,
+    /// At each pin 18 is looked for before 11.
+    WiresFirst,
+    /// 11 is looked for at both pins before 18 is.
+    CodeByCode,
+    /// Pin 2 is looked at before pin 1.
+    SecondPinFirst,
+    /// t is taken for pin 1, and s for pin 2.
+    PinsExchanged,
 }
 
 impl Fault {
+    /// The wrong readings of order 2. They change what is told of blocked pins
+    /// and nothing else.
+    pub const OF_PINS: [Fault; 6] = [
+        Fault::LargestId,
+        Fault::AnySort,
+        Fault::WiresFirst,
+        Fault::CodeByCode,
+        Fault::SecondPinFirst,
+        Fault::PinsExchanged,
+    ];
+
     /// The blocks of one item as this fault sees them.
     pub fn spoil_blocks(self, mut blocks: Vec<Rect>, frame: &Frame) -> Vec<Rect> {
         match self {
@@ -36,7 +62,7 @@ impl Fault {
             Fault::InteriorNodes => {
                 blocks.retain(|block| block.x1 - block.x0 > 1 && block.y1 - block.y0 > 1)
             }
-            Fault::None | Fault::OuterSides | Fault::ClearedMarks => {}
+            _ => {}
         }
         blocks
     }
@@ -46,6 +72,25 @@ impl Fault {
         match self {
             Fault::OuterSides => clusters(blocks),
             _ => blocks.to_vec(),
+        }
+    }
+
+    /// Another order in which the pins are looked at.
+    pub fn order(self) -> Option<Order> {
+        use Sort::{Keepout, Wire};
+        match self {
+            Fault::WiresFirst => Some([(1, Wire), (1, Keepout), (2, Wire), (2, Keepout)]),
+            Fault::CodeByCode => Some([(1, Keepout), (2, Keepout), (1, Wire), (2, Wire)]),
+            Fault::SecondPinFirst => Some([(2, Keepout), (2, Wire), (1, Keepout), (1, Wire)]),
+            _ => None,
+        }
+    }
+
+    /// The pins 1 and 2 of a record, as this fault sees them.
+    pub fn pins(self, Pins { s, t }: Pins) -> Pins {
+        match self {
+            Fault::PinsExchanged => Pins { s: t, t: s },
+            _ => Pins { s, t },
         }
     }
 }

@@ -11,6 +11,7 @@ pub mod drawn;
 mod episodes;
 mod maker;
 mod maze;
+mod pins;
 
 use maker::Maker;
 
@@ -20,7 +21,7 @@ pub struct Style {
     episode: fn(&mut Maker),
 }
 
-pub const STYLES: [Style; 10] = [
+pub const STYLES: [Style; 11] = [
     Style { name: "small", about: "dense boards of up to 14 x 14", episode: episodes::small },
     Style {
         name: "history",
@@ -58,6 +59,11 @@ pub const STYLES: [Style; 10] = [
         name: "long",
         about: "one nearly full board for the whole file, however long",
         episode: episodes::long,
+    },
+    Style {
+        name: "pins",
+        about: "pins inside keep-outs and wires' boxes that overlap, and on their sides",
+        episode: pins::pins,
     },
 ];
 

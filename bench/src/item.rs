@@ -34,7 +34,21 @@ pub enum Item {
     Wire(Wire),
 }
 
+/// The two sorts of items.
+#[derive(Clone, Copy, PartialEq, Eq, Debug)]
+pub enum Sort {
+    Keepout,
+    Wire,
+}
+
 impl Item {
+    pub fn sort(&self) -> Sort {
+        match self {
+            Item::Keepout(_) => Sort::Keepout,
+            Item::Wire(_) => Sort::Wire,
+        }
+    }
+
     pub fn block_count(&self) -> usize {
         match self {
             Item::Keepout(_) => 1,

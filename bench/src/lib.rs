@@ -5,15 +5,16 @@
 //! page that gives the router's rules, "document 02" that of change requests.
 //!
 //! Read it in this order: `limits` and `geometry` name things, `record` reads
-//! twelve bytes, `board` keeps the items and decides the codes, `route` picks
-//! one of the two searches (`unit`, `wide`), `sheet` prints. `drawn` judges wires
-//! drawn by hand. The other tools are `generate`, `tally`, `text` and `draw`;
+//! twelve bytes, `board` keeps the items and decides the codes, `blocked` says
+//! what blocks a pin, `route` picks one of the two searches (`unit`, `wide`),
+//! `sheet` prints. `drawn` judges wires drawn by hand. The other tools are `generate`, `tally`, `text` and `draw`;
 //! `fault` is there for the tests only.
 //! Another router's sheets are compared by `compare`, and `cases` makes a fixed
 //! file for it. Speed is measured by `question` (the file), `questions` (what is
 //! asked), `timing` and `sheet_timing`, beside the `peer`. `launch` starts other
 //! programs, with what the `kit` has.
 
+pub mod blocked;
 pub mod board;
 pub mod cases;
 pub mod code;

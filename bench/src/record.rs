@@ -46,6 +46,17 @@ pub struct Pins {
     pub t: Point,
 }
 
+impl Pins {
+    /// Pin 1, which is s, or pin 2, which is t.
+    pub fn numbered(self, pin: u8) -> Point {
+        if pin == 1 {
+            self.s
+        } else {
+            self.t
+        }
+    }
+}
+
 /// A record of one of the six plain forms.
 #[derive(Clone, Copy, PartialEq, Eq, Debug)]
 pub enum Record {
@@ -75,6 +86,14 @@ impl Record {
             (4, 0, _) => Some(Record::Ask { pins }),
             (5, id @ 1.., [0, 0, 0, 0]) => Some(Record::TakeOut { id }),
             (6, 0, [0, 0, 0, 0]) => Some(Record::Undo),
+            _ => None,
+        }
+    }
+
+    /// The pins of a lay or ask.
+    pub fn pins(&self) -> Option<Pins> {
+        match *self {
+            Record::Lay { pins, .. } | Record::Ask { pins } => Some(pins),
             _ => None,
         }
     }

@@ -61,6 +61,11 @@ impl Router {
         Router { blocks, blocks_stale: false, ..Router::default() }
     }
 
+    /// What a test has planted.
+    pub fn fault(&self) -> Fault {
+        self.fault
+    }
+
     /// Drops everything prepared, for a new board.
     pub fn forget(&mut self) {
         self.blocks_stale = true;

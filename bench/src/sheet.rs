@@ -3,6 +3,7 @@
 use std::io::{self, Read, Write};
 
 use crate::board::{Answer, Board};
+use crate::code::Blocked;
 use crate::limits::{MAX_RECORDS, RECORD_BYTES};
 use crate::record::RecordBytes;
 
@@ -120,6 +121,9 @@ pub fn print(
 
 fn write_line(output: &mut impl Write, number: usize, answer: &Answer) -> io::Result<()> {
     write!(output, "{number} {}", answer.code.number())?;
+    if let Some(Blocked { pin, id }) = answer.code.blocked() {
+        write!(output, " {pin} {id}")?;
+    }
     if let Some(wire) = &answer.wire {
         write!(output, " {} {}", wire.length(), wire.detour())?;
         for corner in wire.corners() {

@@ -3,16 +3,25 @@
 use std::fmt;
 use std::io::{self, Read, Write};
 
+use crate::blocked::Blocker;
 use crate::board::Board;
-use crate::code::Code;
+use crate::code::{Blocked, Code};
+use crate::item::Sort;
 use crate::limits::{MAX_RUNS, MAX_SIDE};
 use crate::record::Record;
 use crate::sheet::{self, Last, Seen, Stopped};
 
 #[derive(Clone, Default)]
 pub struct Tally {
-    /// How often each code came.
-    pub codes: [usize; Code::COUNT],
+    /// How often each code came, in the order of `Code::NUMBERS`.
+    codes: [usize; Code::NUMBERS.len()],
+    /// The codes that tell a pin, with pin 1 and with pin 2.
+    pub in_keepout: [usize; 2],
+    pub near_wire: [usize; 2],
+    /// Pins in a keep-out that wires block as well, and pins near a wire that
+    /// other wires block as well.
+    pub in_both: usize,
+    pub near_several: usize,
     /// Accepted lays and asks, and those among them with a detour.
     pub wires: usize,
     pub detours: usize,
@@ -40,15 +49,33 @@ impl Tally {
     }
 
     fn count(&mut self, seen: &Seen) {
-        self.codes[usize::from(seen.answer.code.number())] += 1;
+        let (code, record) = (seen.answer.code, Record::read(seen.piece));
+        self.codes[place(code.number())] += 1;
+        let pins = record.and_then(|record| record.pins());
+        if let (Some(Blocked { pin, .. }), Some(pins)) = (code.blocked(), pins) {
+            // Nothing has changed, so the board still is what refused it.
+            self.count_blocked(code, pin, &seen.board.blockers(pins.numbered(pin)));
+        }
         if let Some(wire) = &seen.answer.wire {
             self.wires += 1;
             self.detours += usize::from(wire.detour() > 0);
             self.runs[wire.run_count()] += 1;
         }
         let widest = seen.board.frame().is_some_and(|f| f.w == MAX_SIDE && f.h == MAX_SIDE);
-        if widest && matches!(Record::read(seen.piece), Some(Record::Ask { .. })) {
+        if widest && matches!(record, Some(Record::Ask { .. })) {
             self.widest_asks += 1;
+        }
+    }
+
+    fn count_blocked(&mut self, code: Code, pin: u8, blockers: &[Blocker]) {
+        let wires = blockers.iter().filter(|blocker| blocker.sort == Sort::Wire).count();
+        let by_pin = usize::from(pin) - 1;
+        if let Code::PinInKeepout(_) = code {
+            self.in_keepout[by_pin] += 1;
+            self.in_both += usize::from(wires > 0);
+        } else {
+            self.near_wire[by_pin] += 1;
+            self.near_several += usize::from(wires > 1);
         }
     }
 
@@ -58,7 +85,11 @@ impl Tally {
             mine.iter_mut().zip(theirs).for_each(|(mine, theirs)| *mine += theirs)
         };
         sum(&mut self.codes, &other.codes);
+        sum(&mut self.in_keepout, &other.in_keepout);
+        sum(&mut self.near_wire, &other.near_wire);
         sum(&mut self.runs, &other.runs);
+        self.in_both += other.in_both;
+        self.near_several += other.near_several;
         self.wires += other.wires;
         self.detours += other.detours;
         self.widest_asks += other.widest_asks;
@@ -68,13 +99,28 @@ impl Tally {
     pub fn records(&self) -> usize {
         self.codes.iter().sum()
     }
+
+    /// How often the code of a number came.
+    pub fn code(&self, number: u8) -> usize {
+        self.codes[place(number)]
+    }
+}
+
+fn place(number: u8) -> usize {
+    Code::NUMBERS.iter().position(|one| *one == number).expect("a number that a file can reach")
 }
 
 impl fmt::Display for Tally {
     fn fmt(&self, f: &mut fmt::Formatter<'_>) -> fmt::Result {
         writeln!(f, "records {}{}", self.records(), if self.cut { ", cut" } else { "" })?;
-        for (code, count) in self.codes.iter().enumerate() {
-            writeln!(f, "code {code}: {count}")?;
+        let by_pin = |[first, second]: [usize; 2]| format!(", pin 1 {first}, pin 2 {second}");
+        for number in Code::NUMBERS {
+            let told = match number {
+                11 => format!("{}, near a wire too {}", by_pin(self.in_keepout), self.in_both),
+                18 => format!("{}, near several {}", by_pin(self.near_wire), self.near_several),
+                _ => String::new(),
+            };
+            writeln!(f, "code {number}: {}{told}", self.code(number))?;
         }
         writeln!(
             f,

@@ -2,16 +2,23 @@
 
 use std::fs;
 
+use bench::board::Board;
 use bench::cases::{records, sheet};
+use bench::code::Code;
+use bench::fault::Fault;
 use bench::limits::{MAX_RECORDS, RECORD_BYTES};
 use bench::peer::bench_folder;
+use bench::route::{Method, Router};
 
 #[test]
 fn they_reach_what_a_file_can_reach() {
     let (sheet, tally) = sheet();
     assert!((20_000..=MAX_RECORDS).contains(&tally.records()), "{tally}");
-    for (code, count) in tally.codes.iter().enumerate() {
-        assert!(*count >= 5, "code {code} came {count} times\n{tally}");
+    for number in Code::NUMBERS {
+        assert!(tally.code(number) >= 5, "code {number}\n{tally}");
+    }
+    for count in [tally.in_keepout, tally.near_wire].concat() {
+        assert!(count >= 20, "few blocked pins\n{tally}");
     }
     for (runs, count) in tally.runs.iter().enumerate().skip(1) {
         assert!(*count >= 1, "{runs} runs came {count} times\n{tally}");
@@ -27,6 +34,19 @@ fn they_begin_before_bounds_and_end_short() {
     let (sheet, _) = sheet();
     assert!(sheet.starts_with(b"1 2\n"));
     assert_ne!(records().len() % RECORD_BYTES, 0);
+}
+
+/// Each wrong reading of document 02's order 2 would be seen.
+#[test]
+fn they_show_what_is_told_of_blocked_pins() {
+    let records = records();
+    for fault in Fault::OF_PINS {
+        let (mut sound, router) = (Board::default(), Router::new(Method::BySize, fault));
+        let mut faulty = Board::with_router(router);
+        let mut pieces = records.chunks(RECORD_BYTES);
+        let first = pieces.position(|piece| sound.take(piece) != faulty.take(piece));
+        assert!(first.is_some(), "{fault:?} goes unnoticed");
+    }
 }
 
 /// The crate that runs the cases reads and expects these files.

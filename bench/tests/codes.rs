@@ -1,5 +1,5 @@
 //! The codes: each one, their order, and the limits. Expected codes are read
-//! off document 01's table by hand.
+//! off document 01's table by hand. What 11 and 18 tell is in `pins`.
 
 mod common;
 
@@ -163,19 +163,22 @@ fn codes_of_a_lay_and_an_ask() {
         ([1, 9, 1, 9], 10),
         ([4, 5, 1, 9], 11),
         ([1, 9, 4, 5], 11),
-        ([5, 0, 1, 9], 11),
+        ([5, 0, 1, 9], 18),
+        ([1, 9, 5, 0], 18),
     ] {
         assert_eq!(code_on_board(record(3, 9, pins)), code, "lay {pins:?}");
         assert_eq!(code_on_board(record(4, 0, pins)), code, "ask {pins:?}");
     }
 }
 
-/// A full board: wire 1 parts it at x = 50, and 45 keep-outs of one square
-/// each, ids 2 to 46, stand on its lower edge on both sides.
+/// A full board: wire 1 parts it at x = 50, and 45 keep-outs, ids 2 to 46, stand
+/// on its lower edge on both sides. They have one square each; only the last has
+/// four and so a node inside, (103,1).
 fn full_board() -> Vec<Vec<u8>> {
     let mut records = vec![bounds(200, 20, 1), lay(1, 50, 0, 50, 20)];
     let x = |id: u16| if id <= 24 { 2 * id - 2 } else { 2 * id + 10 };
-    records.extend((2..=46).map(|id| keepout(id, x(id), 0, x(id) + 1, 1)));
+    records.extend((2..=45).map(|id| keepout(id, x(id), 0, x(id) + 1, 1)));
+    records.push(keepout(46, 102, 0, 104, 2));
     records
 }
 
@@ -198,26 +201,35 @@ fn the_earlier_code_is_given() {
         (keepout(99, 2, 0, 3, 1), 7, 14),
         (keepout(99, 49, 5, 51, 6), 8, 14),
         (keepout(99, 90, 9, 91, 10), 14, 14),
-        // Kind 3: 4 9 10 11 12 13 14; 13 before 14 is tested below.
+        // Kind 3: 4 9 10 11 12 13 14; 13 before 14 is tested below. Code 18 has
+        // the place of 11.
         (lay(1, 201, 9, 90, 9), 4, 9),
         (lay(1, 90, 9, 90, 9), 4, 10),
-        (lay(1, 50, 9, 90, 9), 4, 11),
+        (lay(1, 103, 1, 90, 9), 4, 11),
+        (lay(1, 50, 9, 90, 9), 4, 18),
         (lay(1, 10, 9, 90, 9), 4, 12),
         (lay(1, 90, 9, 91, 9), 4, 14),
         (lay(99, 201, 9, 201, 9), 9, 10),
-        (lay(99, 50, 9, 201, 9), 9, 11),
+        (lay(99, 103, 1, 201, 9), 9, 11),
+        (lay(99, 50, 9, 201, 9), 9, 18),
         (lay(99, 90, 9, 201, 9), 9, 14),
-        (lay(99, 50, 9, 50, 9), 10, 11),
+        (lay(99, 103, 1, 103, 1), 10, 11),
+        (lay(99, 50, 9, 50, 9), 10, 18),
         (lay(99, 90, 9, 90, 9), 10, 14),
-        (lay(99, 10, 9, 50, 9), 11, 12),
-        (lay(99, 90, 9, 50, 9), 11, 14),
+        (lay(99, 10, 9, 103, 1), 11, 12),
+        (lay(99, 90, 9, 103, 1), 11, 14),
+        (lay(99, 10, 9, 50, 9), 18, 12),
+        (lay(99, 90, 9, 50, 9), 18, 14),
         (lay(99, 10, 9, 90, 9), 12, 14),
         (lay(99, 90, 9, 91, 9), 14, 14),
         // Kind 4: 9 10 11 12 13.
         (ask(201, 9, 201, 9), 9, 10),
-        (ask(50, 9, 201, 9), 9, 11),
-        (ask(50, 9, 50, 9), 10, 11),
-        (ask(10, 9, 50, 9), 11, 12),
+        (ask(103, 1, 201, 9), 9, 11),
+        (ask(50, 9, 201, 9), 9, 18),
+        (ask(103, 1, 103, 1), 10, 11),
+        (ask(50, 9, 50, 9), 10, 18),
+        (ask(10, 9, 103, 1), 11, 12),
+        (ask(10, 9, 50, 9), 18, 12),
         (ask(10, 9, 90, 9), 12, 12),
     ] {
         let answer = last_code(&[full.clone(), vec![record.clone()]].concat());
@@ -226,10 +238,10 @@ fn the_earlier_code_is_given() {
 }
 
 #[test]
-fn code_11_comes_before_code_12() {
+fn code_18_comes_before_code_12() {
     // P6's wall parts the board; a pin in the wall's box is told first.
     let base = [bounds(10, 10, 1), lay(1, 5, 0, 5, 10)];
-    for (pins, code) in [([2, 5, 8, 5], 12), ([5, 3, 8, 5], 11), ([2, 5, 5, 10], 11)] {
+    for (pins, code) in [([2, 5, 8, 5], 12), ([5, 3, 8, 5], 18), ([2, 5, 5, 10], 18)] {
         assert_eq!(last_code(&[&base[..], &[record(3, 9, pins)]].concat()), code);
         assert_eq!(last_code(&[&base[..], &[record(4, 0, pins)]].concat()), code);
     }
@@ -298,7 +310,7 @@ fn a_wire_of_24_runs_is_answered_and_one_of_25_refused() {
     }
     // The wire of 24 runs stands, and goes again.
     let more = [lay(99, 3, 0, 52, 1), ask(3, 5, 0, 0), takeout(99), ask(3, 5, 0, 0)];
-    assert_eq!(codes(&on_comb(&more))[13..], [0, 11, 0, 0]);
+    assert_eq!(codes(&on_comb(&more))[13..], [0, 18, 0, 0]);
 }
 
 #[test]

@@ -7,6 +7,7 @@ use std::path::Path;
 use std::process::{Command, Output, Stdio};
 use std::time::Duration;
 
+use bench::code::Code;
 use bench::compare::{compare, shrink, Form, Made, Records, Report, Rival, Source};
 use bench::limits::{MAX_RECORDS, RECORD_BYTES};
 use bench::tally::Tally;
@@ -162,8 +163,9 @@ fn a_missing_program_is_told() {
     assert_eq!(output.status.code(), Some(1));
 }
 
-/// The default of half a million records holds each code a thousand times;
-/// here a tenth of it is counted.
+/// The default of half a million records holds each code a thousand times, and
+/// 11 and 18 two thousand times with either pin. Here a tenth of it is counted;
+/// the two longest files, which are not in it, have fewer blocked pins.
 #[test]
 fn the_mix_of_files_reaches_enough() {
     let records = 50_000;
@@ -175,9 +177,13 @@ fn the_mix_of_files_reaches_enough() {
     assert!(3 * all.wires >= records, "few wires\n{all}");
     assert!(4 * all.detours >= all.wires, "few detours\n{all}");
     assert!(all.widest_asks >= 2_000, "{all}");
-    for (code, count) in all.codes.iter().enumerate() {
-        assert!(*count >= 110, "code {code} came {count} times\n{all}");
+    for number in Code::NUMBERS {
+        assert!(all.code(number) >= 110, "code {number}\n{all}");
     }
+    for count in [all.in_keepout, all.near_wire].concat() {
+        assert!(count >= 300, "few blocked pins\n{all}");
+    }
+    assert!(all.in_both >= 300 && all.near_several >= 150, "{all}");
 }
 
 #[test]

@@ -9,19 +9,15 @@ use bench::drawn::pieces::{split, Piece};
 use bench::drawn::slip::Slip;
 use bench::fault::Fault;
 use bench::generate::drawn::DrawnStyle;
-use bench::record::Record;
 use bench::route::Method;
 use common::drawn::sheet_by;
-use common::naive;
+use common::{is_small, naive};
 
 struct Case {
     name: String,
     file: Vec<u8>,
     expected: String,
 }
-
-/// The naive router looks at every node; larger boards are not for it.
-const MOST_NODES: i32 = 4_000;
 
 /// Small files with their lines by the naive router.
 fn cases() -> &'static [Case] {
@@ -38,7 +34,7 @@ fn cases() -> &'static [Case] {
             let drawn = DrawnStyle::named(style).expect("a style of the generator");
             for seed in 0..files {
                 let file = drawn.file(seed, wires);
-                if split(&file).into_iter().all(is_small) {
+                if split(&file).into_iter().all(is_small_piece) {
                     let expected = naive::drawn::sheet(&file);
                     cases.push(Case { name: format!("{style} {seed}"), file, expected });
                 }
@@ -48,12 +44,9 @@ fn cases() -> &'static [Case] {
     })
 }
 
-fn is_small(piece: &[u8]) -> bool {
+fn is_small_piece(piece: &[u8]) -> bool {
     match Piece::read(piece) {
-        Piece::Record(record) => match Record::read(record) {
-            Some(Record::Bounds { w, h, .. }) => w.saturating_mul(h) <= MOST_NODES,
-            _ => true,
-        },
+        Piece::Record(record) => is_small(record),
         Piece::Drawn(_) | Piece::Bad(_) => true,
     }
 }

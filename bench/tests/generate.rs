@@ -1,5 +1,6 @@
 //! The generator: what its files reach.
 
+use bench::code::Code;
 use bench::generate::{Style, DEFAULT_COUNT, STYLES};
 use bench::limits::{MAX_RECORDS, RECORD_BYTES};
 use bench::tally::Tally;
@@ -22,8 +23,8 @@ fn the_styles_reach_every_code_and_many_wires() {
         assert!(4 * tally.detours > tally.wires, "{}: few detours\n{tally}", style.name);
         all.add(&tally);
     }
-    for (code, count) in all.codes.iter().enumerate() {
-        assert!(*count >= 20, "code {code} came {count} times\n{all}");
+    for number in Code::NUMBERS {
+        assert!(all.code(number) >= 20, "code {number}\n{all}");
     }
     for (runs, count) in all.runs.iter().enumerate().skip(1) {
         assert!(*count >= 5, "{runs} runs came {count} times\n{all}");
@@ -34,8 +35,19 @@ fn the_styles_reach_every_code_and_many_wires() {
 fn mazes_reach_the_limits() {
     let tally = tally(Style::named("maze").expect("a style"), 0..10);
     assert!(tally.runs[24] >= 20, "{tally}");
-    assert!(tally.codes[13] >= 100, "{tally}");
-    assert!(tally.codes[14] >= 100, "{tally}");
+    assert!(tally.code(13) >= 100, "{tally}");
+    assert!(tally.code(14) >= 100, "{tally}");
+}
+
+/// With either pin, by either sort of item, and where several are in the way.
+#[test]
+fn pins_are_blocked_in_every_way() {
+    let tally = tally(Style::named("pins").expect("a style"), 0..4);
+    for count in [tally.in_keepout, tally.near_wire].concat() {
+        assert!(20 * count >= tally.records(), "{tally}");
+    }
+    assert!(10 * tally.in_both >= tally.records(), "{tally}");
+    assert!(30 * tally.near_several >= tally.records(), "{tally}");
 }
 
 #[test]

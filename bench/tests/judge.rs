@@ -92,14 +92,19 @@ fn the_example_in_words() {
 #[test]
 fn other_words() {
     let lines = "bounds 9 9 1\ndraw 0 0 0 0 1 0\ndraw 0 0 0 1 1 1 1 0\n\
-                keepout 1 0 0 10 1\nask 0 0 10 10\nbytes 07\n";
+                keepout 1 0 0 10 1\nask 0 0 10 10\nkeepout 2 3 3 6 6\nlay 7 0 0 0 9\n\
+                lay 8 9 9 4 4\nlay 8 0 4 9 9\nbytes 07\n";
     let (told, status) = judged("other.txt", lines);
     assert_eq!(
         told,
         "line 2: draw 0 0 0 0 1 0: run 1 from 0:0 to 0:0 is empty (23)\n\
          line 3: draw 0 0 0 1 1 1 1 0: legal, 2 units longer than the shortest\n\
          line 4: keepout 1 0 0 10 1: refused with 6, so it changes nothing\n\
-         line 6: bytes 07: refused with 1, so it changes nothing\n\
+         line 8: lay 8 9 9 4 4: refused with 11: pin 2 lies inside keep-out 2, \
+         so it changes nothing\n\
+         line 9: lay 8 0 4 9 9: refused with 18: pin 1 is nearer than the clearance to wire 7, \
+         so it changes nothing\n\
+         line 10: bytes 07: refused with 1, so it changes nothing\n\
          the program read no further: bad\n"
     );
     assert_eq!(status, Some(0));

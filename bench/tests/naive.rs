@@ -7,8 +7,9 @@ use std::sync::OnceLock;
 
 use bench::fault::Fault;
 use bench::generate::Style;
+use bench::limits::RECORD_BYTES;
 use bench::route::Method;
-use common::{naive, sheet_by};
+use common::{is_small, naive, sheet_by};
 
 struct Case {
     name: String,
@@ -21,14 +22,20 @@ fn cases() -> &'static [Case] {
     static CASES: OnceLock<Vec<Case>> = OnceLock::new();
     CASES.get_or_init(|| {
         let mut cases = Vec::new();
-        for (style, files, records) in
-            [("small", 1_500, 100), ("flush", 300, 100), ("broken", 200, 100), ("maze", 60, 60)]
-        {
+        for (style, files, records) in [
+            ("small", 1_500, 100),
+            ("flush", 300, 100),
+            ("broken", 200, 100),
+            ("maze", 60, 60),
+            ("pins", 100, 100),
+        ] {
             let style = Style::named(style).expect("a style of the generator");
             for seed in 0..files {
                 let file = style.file(seed, records);
-                let expected = naive::sheet(&file);
-                cases.push(Case { name: format!("{} {seed}", style.name), file, expected });
+                if file.chunks(RECORD_BYTES).all(is_small) {
+                    let expected = naive::sheet(&file);
+                    cases.push(Case { name: format!("{} {seed}", style.name), file, expected });
+                }
             }
         }
         cases
@@ -59,6 +66,9 @@ fn planted_faults_are_noticed() {
     ] {
         assert!(first_difference(method, fault).is_some(), "{method:?} {fault:?} went unnoticed");
     }
+    for fault in Fault::OF_PINS {
+        assert!(first_difference(Method::Unit, fault).is_some(), "{fault:?} went unnoticed");
+    }
 }
 
 /// The comparison is only worth something if the files get wires accepted,
@@ -71,8 +81,12 @@ fn the_files_have_something_to_compare() {
     let detours = wires.iter().filter(|line| line[3] != "0").count();
     assert!(wires.len() > 50_000, "{} wires", wires.len());
     assert!(4 * detours > wires.len(), "{detours} detours of {}", wires.len());
-    for code in ["1", "4", "5", "6", "7", "8", "9", "10", "11", "12", "15"] {
+    for code in ["1", "4", "5", "6", "7", "8", "9", "10", "12", "15"] {
         let count = lines().map(words).filter(|line| line.len() == 2 && line[1] == code).count();
         assert!(count > 300, "code {code} came {count} times");
+    }
+    for told in [" 11 1 ", " 11 2 ", " 18 1 ", " 18 2 "] {
+        let count = lines().filter(|line| line.contains(told)).count();
+        assert!(count > 300, "{told}came {count} times");
     }
 }

@@ -85,7 +85,9 @@ fn tallies() {
     let output = run(&["tally"], &worked_input());
     let lines: Vec<&str> = text(&output.stdout).lines().collect();
     assert_eq!(lines[..2], ["records 10", "code 0: 8"]);
-    assert!(lines.contains(&"code 11: 1") && lines.contains(&"code 15: 1"));
+    assert!(lines.contains(&"code 11: 0, pin 1 0, pin 2 0, near a wire too 0"));
+    assert!(lines.contains(&"code 18: 1, pin 1 0, pin 2 1, near several 0"));
+    assert!(lines.contains(&"code 15: 1"));
     assert!(lines.contains(&"accepted lays and asks 2 (20.0 %), with a detour 1 (50.0 %)"));
     assert!(lines.contains(&"4 runs: 2"));
     assert_eq!(output.status.code(), Some(0));

@@ -1,5 +1,6 @@
 //! Document 01's Table P, line by line, and its four ways astray. The expected
-//! answers are the document's own.
+//! answers are the document's own; where it says 11, document 02's order 2 says
+//! the rest.
 
 mod common;
 
@@ -26,7 +27,7 @@ fn block() -> Vec<u8> {
 
 /// P6's wire, laid on the empty board.
 fn wall() -> Vec<u8> {
-    lay(1, 5, 0, 5, 10)
+    lay(7, 5, 0, 5, 10)
 }
 
 #[test]
@@ -65,7 +66,7 @@ fn p6() {
 fn p7() {
     assert_eq!(answer(&[board(1), wall(), ask(4, 0, 4, 10)]), "0 10 0 4:0 4:10");
     assert_eq!(answer(&[board(2), wall()]), "0 10 0 5:0 5:10");
-    assert_eq!(answer(&[board(2), wall(), ask(4, 0, 4, 10)]), "11");
+    assert_eq!(answer(&[board(2), wall(), ask(4, 0, 4, 10)]), "18 1 7");
 }
 
 #[test]
@@ -75,7 +76,7 @@ fn p8() {
 
 #[test]
 fn p9() {
-    assert_eq!(answer(&[board(1), block(), ask(4, 5, 8, 5)]), "11");
+    assert_eq!(answer(&[board(1), block(), ask(4, 5, 8, 5)]), "11 1 1");
 }
 
 #[test]
@@ -130,8 +131,15 @@ fn astray_by_cleared_marks() {
         ask(5, 9, 10, 9),
         ask(0, 9, 10, 9),
     ];
-    let right =
-        ["0", "0 10 0 4:0 4:10", "0 8 0 6:10 6:2", "12", "0", "11", "0 28 9 0:9 4:9 4:0 10:0 10:9"];
+    let right = [
+        "0",
+        "0 10 0 4:0 4:10",
+        "0 8 0 6:10 6:2",
+        "12",
+        "0",
+        "18 1 2",
+        "0 28 9 0:9 4:9 4:0 10:0 10:9",
+    ];
     assert_eq!(answers_by(&records, Method::Unit, Fault::None), right);
     assert_eq!(answers_by(&records, Method::Wide, Fault::None), right);
     let wrong = answers_by(&records, Method::Unit, Fault::ClearedMarks);

@@ -6,7 +6,7 @@ use crate::draw::{Scene, Versus};
 use crate::generate::Style;
 use crate::geometry::Point;
 use crate::limits::{MAX_RECORDS, RECORD_BYTES};
-use crate::record::{Pins, Record};
+use crate::record::Record;
 use crate::tally::Tally;
 use crate::text::unpack;
 
@@ -14,9 +14,10 @@ use crate::text::unpack;
 pub struct Records;
 
 /// The numbers of records are such that half a million hold every code at least
-/// a thousand times, more than a third of them wires, and many thousand asks on
-/// the widest board (`tests/compare.rs`). Files are short, since each can begin
-/// before bounds. The longest are one that ends in `end` and one that is cut.
+/// a thousand times, 11 and 18 two thousand times with either pin, more than a
+/// third of them wires, and many thousand asks on the widest board
+/// (`tests/compare.rs`). Files are short, since each can begin before bounds. The
+/// longest are one that ends in `end` and one that is cut.
 const PLAN: Plan = Plan {
     round: &[
         ("small", 1_500),
@@ -29,6 +30,7 @@ const PLAN: Plan = Plan {
         ("flush", 1_500),
         ("mixed", 1_200),
         ("long", 1_000),
+        ("pins", 1_500),
     ],
     longest: &[("long", MAX_RECORDS), ("mixed", MAX_RECORDS + 1)],
     make: |style, seed, count| Style::named(style).expect("a style").file(seed, count),
@@ -81,14 +83,8 @@ impl Form for Records {
     fn scene(before: &[&[u8]], piece: Option<&[u8]>, difference: &Difference) -> Scene {
         let scene = Scene::of(before.concat().as_slice()).expect("memory can be read");
         let (own, other) = (corners(&difference.own), corners(&difference.other));
-        scene.with(Versus { pins: piece.and_then(pins), own, other })
-    }
-}
-
-fn pins(piece: &[u8]) -> Option<Pins> {
-    match Record::read(piece)? {
-        Record::Lay { pins, .. } | Record::Ask { pins } => Some(pins),
-        _ => None,
+        let pins = piece.and_then(Record::read).and_then(|record| record.pins());
+        scene.with(Versus { pins, own, other })
     }
 }
 

@@ -2,7 +2,7 @@
 
 use super::Finding;
 use crate::board::Board;
-use crate::code::Code;
+use crate::code::{Blocked, Code};
 use crate::geometry::Point;
 use crate::limits::MAX_CORNERS;
 use crate::record::Record;
@@ -45,7 +45,21 @@ fn said_of_record(board: &mut Board, bytes: &[u8]) -> Option<String> {
     let code = board.take(bytes).code;
     let harmless =
         code == Code::Accepted || matches!(Record::read(bytes), Some(Record::Ask { .. }));
-    (!harmless).then(|| format!("refused with {}, so it changes nothing", code.number()))
+    let (number, why) = (code.number(), said_of_pin(code));
+    (!harmless).then(|| format!("refused with {number}{why}, so it changes nothing"))
+}
+
+/// The pin and the item that a code tells, if it does.
+fn said_of_pin(code: Code) -> String {
+    match code {
+        Code::PinInKeepout(Blocked { pin, id }) => {
+            format!(": pin {pin} lies inside keep-out {id}")
+        }
+        Code::PinNearWire(Blocked { pin, id }) => {
+            format!(": pin {pin} is nearer than the clearance to wire {id}")
+        }
+        _ => String::new(),
+    }
 }
 
 /// The verdict in the line that a program printed for the wire of that number.

@@ -48,13 +48,18 @@ impl Maker {
     pub fn rect(&mut self, mix: &Mix) -> Rect {
         let mut rect = self.any_rect(mix);
         for _ in 0..TRIES {
-            let proper = rect.x0 < rect.x1 && rect.y0 < rect.y1;
-            if proper && !self.board.items().any(|(_, item)| meets(rect, item)) {
+            if self.has_room(rect) {
                 break;
             }
             rect = self.any_rect(mix);
         }
         rect
+    }
+
+    /// Is it a rectangle that meets no keep-out and no wire?
+    pub fn has_room(&self, rect: Rect) -> bool {
+        let proper = rect.x0 < rect.x1 && rect.y0 < rect.y1;
+        proper && !self.board.items().any(|(_, item)| meets(rect, item))
     }
 
     fn any_rect(&mut self, mix: &Mix) -> Rect {

@@ -7,6 +7,7 @@ pub mod programs;
 
 use bench::board::Board;
 use bench::fault::Fault;
+use bench::record::Record;
 use bench::route::{Method, Router};
 use bench::sheet;
 
@@ -44,6 +45,17 @@ pub fn undo() -> Vec<u8> {
     record(6, 0, [0; 4])
 }
 
+/// The naive router looks at every node; larger boards are not for it.
+const MOST_NODES: i32 = 4_000;
+
+/// Does a record leave the board small enough for the naive router?
+pub fn is_small(record: &[u8]) -> bool {
+    match Record::read(record) {
+        Some(Record::Bounds { w, h, .. }) => w.saturating_mul(h) <= MOST_NODES,
+        _ => true,
+    }
+}
+
 /// Document 01's worked input.
 pub fn worked_input() -> Vec<u8> {
     let mut records = vec![
@@ -58,12 +70,13 @@ pub fn worked_input() -> Vec<u8> {
     records.concat()
 }
 
-/// Its whole output, as document 01 gives it.
+/// Its whole output, as document 01 gives it, but for line 4, which document 02's
+/// order 2 gives.
 pub const WORKED_SHEET: &str = "\
 1 0
 2 0
 3 0 13 3 1:5 3:5 3:8 8:8 8:5
-4 11
+4 18 2 7
 5 0
 6 0 12 0 1:5 3:5 3:8 9:8 9:9
 7 0

@@ -1,12 +1,23 @@
 //! The plainest router there is, written from document 01's sentences, for
 //! small boards. It shares no code with the bench: it reads the bytes itself,
 //! keeps whole lists of items to go back to, tests every unit edge against
-//! every block, and finds wires by comparing spelled words. `drawn` judges wires
-//! drawn by hand, step by step.
+//! every block, and finds wires by comparing spelled words. `pins` says what is
+//! in the way of a pin, node by node. `drawn` judges wires drawn by hand, step by
+//! step.
 
 pub mod drawn;
+mod pins;
 
 type Node = (i64, i64);
+
+/// What an accepted record gives after its code, or the code that refuses it and
+/// what is told with that.
+type Answer = Result<String, String>;
+
+/// A code that tells nothing more.
+fn no<T>(code: u8) -> Result<T, String> {
+    Err(code.to_string())
+}
 
 #[derive(Clone)]
 enum Thing {
@@ -41,13 +52,13 @@ impl Naive {
     pub fn take(&mut self, piece: &[u8]) -> String {
         match self.try_take(piece) {
             Ok(answer) => format!("0{answer}"),
-            Err(code) => code.to_string(),
+            Err(refusal) => refusal,
         }
     }
 
-    fn try_take(&mut self, piece: &[u8]) -> Result<String, u8> {
+    fn try_take(&mut self, piece: &[u8]) -> Answer {
         if piece.len() != 12 {
-            return Err(1);
+            return no(1);
         }
         let pair = |at: usize| piece[at] as i64 + 256 * piece[at + 1] as i64;
         let (kind, id) = (piece[0], pair(2) as u16);
@@ -63,10 +74,10 @@ impl Naive {
                 _ => false,
             };
         if !well_formed {
-            return Err(1);
+            return no(1);
         }
         if kind != 1 && self.bounds.is_none() {
-            return Err(2);
+            return no(2);
         }
         match kind {
             1 => self.begin(a, b, c),
@@ -78,28 +89,28 @@ impl Naive {
         }
     }
 
-    fn begin(&mut self, w: i64, h: i64, c: i64) -> Result<String, u8> {
+    fn begin(&mut self, w: i64, h: i64, c: i64) -> Answer {
         let in_range =
             (1..=30_000).contains(&w) && (1..=30_000).contains(&h) && (1..=200).contains(&c);
         if !in_range {
-            return Err(3);
+            return no(3);
         }
         *self = Naive { bounds: Some((w, h, c)), ..Naive::default() };
         Ok(String::new())
     }
 
-    fn keep_out(&mut self, id: u16, low: Node, high: Node) -> Result<String, u8> {
+    fn keep_out(&mut self, id: u16, low: Node, high: Node) -> Answer {
         let (w, h, _) = self.bounds.unwrap();
         self.id_is_free(id)?;
         if !(low.0 < high.0 && high.0 <= w && low.1 < high.1 && high.1 <= h) {
-            return Err(6);
+            return no(6);
         }
         // Unit squares inside the new keep-out are inside no other one.
         for (x, y) in points(low.0, low.1, high.0 - 1, high.1 - 1) {
             for (_, thing) in &self.things {
                 if let Thing::Keepout(l, u) = thing {
                     if l.0 <= x && x < u.0 && l.1 <= y && y < u.1 {
-                        return Err(7);
+                        return no(7);
                     }
                 }
             }
@@ -107,50 +118,51 @@ impl Naive {
         for (_, thing) in &self.things {
             if let Thing::Wire(corners) = thing {
                 if unit_edges(corners).any(|(p, q)| edge_meets((p, q), (low, high))) {
-                    return Err(8);
+                    return no(8);
                 }
             }
         }
         self.add(id, Thing::Keepout(low, high))
     }
 
-    fn lay(&mut self, id: u16, s: Node, t: Node) -> Result<String, u8> {
+    fn lay(&mut self, id: u16, s: Node, t: Node) -> Answer {
         self.id_is_free(id)?;
         let word = self.find(s, t)?;
         self.add(id, Thing::Wire(corners(s, &word)))?;
         Ok(shown(s, t, &word))
     }
 
-    fn take_out(&mut self, id: u16) -> Result<String, u8> {
+    fn take_out(&mut self, id: u16) -> Answer {
         if self.things.iter().all(|(used, _)| *used != id) {
-            return Err(5);
+            return no(5);
         }
         self.keep();
         self.things.retain(|(used, _)| *used != id);
         Ok(String::new())
     }
 
-    fn undo(&mut self) -> Result<String, u8> {
-        self.things = self.before.pop().ok_or(15)?;
+    fn undo(&mut self) -> Answer {
+        let Some(things) = self.before.pop() else { return no(15) };
+        self.things = things;
         Ok(String::new())
     }
 
-    fn id_is_free(&self, id: u16) -> Result<(), u8> {
+    fn id_is_free(&self, id: u16) -> Result<(), String> {
         if self.things.iter().any(|(used, _)| *used == id) {
-            Err(4)
+            no(4)
         } else {
             Ok(())
         }
     }
 
-    fn add(&mut self, id: u16, thing: Thing) -> Result<String, u8> {
+    fn add(&mut self, id: u16, thing: Thing) -> Answer {
         let count = |thing: &Thing| match thing {
             Thing::Keepout(..) => 1,
             Thing::Wire(corners) => corners.len() - 1,
         };
         let before: usize = self.things.iter().map(|(_, thing)| count(thing)).sum();
         if before + count(&thing) > 46 {
-            return Err(14);
+            return no(14);
         }
         self.keep();
         self.things.push((id, thing));
@@ -185,23 +197,19 @@ impl Naive {
     }
 
     /// The steps of the answered wire, spelled 0 for E, 1 N, 2 W, 3 S.
-    fn find(&self, s: Node, t: Node) -> Result<Vec<u8>, u8> {
+    fn find(&self, s: Node, t: Node) -> Result<Vec<u8>, String> {
         let (w, h, _) = self.bounds.unwrap();
         let off = |p: Node| p.0 > w || p.1 > h;
         if off(s) || off(t) {
-            return Err(9);
+            return no(9);
         }
         if s == t {
-            return Err(10);
+            return no(10);
         }
-        let blocks = self.blocks();
-        let blocked = |p: Node| blocks.iter().any(|block| inside((4 * p.0, 4 * p.1), *block));
-        if blocked(s) || blocked(t) {
-            return Err(11);
-        }
-        let word = first_word((w, h), &blocks, s, t).ok_or(12)?;
+        self.pins_are_free(s, t)?;
+        let Some(word) = first_word((w, h), &self.blocks(), s, t) else { return no(12) };
         if corners(s, &word).len() - 1 > 24 {
-            return Err(13);
+            return no(13);
         }
         Ok(word)
     }

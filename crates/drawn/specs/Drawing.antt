@@ -29,6 +29,10 @@ refusedBy f = record { code = f .code; run = f .run; excess = 0 }
 abbrev pub OnHeld : Size → Blocks → (Layout → Type 0) → Type 0
 OnHeld s b P = (l : Layout) → l .size ≡ s → HeldOf b wires l → P l
 
+-- there is such a layout
+abbrev pub SomeHeld : Size → Blocks → Type 0
+SomeHeld s b = (l : Layout) × (l .size ≡ s) × HeldOf b wires l
+
 unfoldable pub RunSays : Size → Blocks → Item → ℕ → Fault → Type 0
 RunSays s b m k r = OnHeld s b (λ l. Gives (runCheck l (k + 1) (cornerAt m k) (cornerAt m (k + 1))) (faultOf r))
 

@@ -7,6 +7,7 @@ use blocks::stretch;
 use paper::Board;
 use paper::Item;
 use paper::Judged;
+use paper::MOST_CORNERS;
 use paper::Pins;
 use paper::Size;
 use router::Route;
@@ -30,7 +31,7 @@ ghost use Rattle.paper.specs.Laws.Says.{Says};
 ghost use Rattle.blocks.specs.Flat.{flat, Fits};
 ghost use Rattle.blocks.specs.Growing.{cornerAt};
 ghost use Rattle.router.specs.Route.{Asked, shortestOf};
-ghost use Rattle.drawn.specs.Drawing.{refusedBy, RunSays, PlacesSay, AllSay, Reached, Over, pinsOf};
+ghost use Rattle.drawn.specs.Drawing.{refusedBy, SomeHeld, RunSays, PlacesSay, AllSay, Reached, Over, pinsOf};
 
 // ---- the places of its runs
 
@@ -84,7 +85,7 @@ fn bad_run(size: Size, held: Blocks, item: Item, n: usize) -> Fault
 
 // All that is said of the item's n runs, but its excess.
 pub fn fault_of(size: Size, held: Blocks, item: Item, n: usize) -> Fault
-    requires { ⌜ Fits held × (n ≤ most-runs) ⌝ }
+    requires { ⌜ SomeHeld size held × (n ≤ most-runs) ⌝ }
     ensures { λ r. ⌜ AllSay size held item n r ⌝ }
 {
     let shape = bad_shape(item, n);
@@ -121,7 +122,7 @@ fn excess(size: Size, held: Blocks, p: Pins, length: u32) -> u32
 
 // The slice holds 2 to 25 corners.
 fn count_fits(n: usize) -> bool
-    ensures { λ r. ⌜ Says r ((k : ℕ) × (2 ≤ k) × (k ≤ 25) × (n ≡ k + k)) ⌝ }
+    ensures { λ r. ⌜ Says r ((k : ℕ) × (2 ≤ k) × (k ≤ most-corners) × (n ≡ k + k)) ⌝ }
 {
     if n % 2 != 0 {
         return false;
@@ -129,7 +130,7 @@ fn count_fits(n: usize) -> bool
     if n < 4 {
         return false;
     }
-    n <= 50
+    n / 2 <= MOST_CORNERS
 }
 
 fn refused(fault: Fault) -> Judged

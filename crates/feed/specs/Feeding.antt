@@ -3,9 +3,10 @@
 use Prim.Native.Nat.{ℕ, _+_, _-_, _≤_, _<_}
 use mathlib.Core.Path.{_≡_}
 use mathlib.Core.Logic.{_⊎_}
-use mathlib.Core.List.{List, [], _∷_, map}
+use mathlib.Core.List.{List, [], _∷_, _++_, map}
 use lib.ListN.{length, replicate, take}
 use Rattle.paper.specs.declared.Pins.{Pins}
+use Rattle.paper.specs.declared.Size.{Size}
 use Rattle.paper.specs.declared.Reply.{Reply}
 use Rattle.paper.specs.declared.Record.{Record}
 use Rattle.paper.specs.declared.Record.the-variants.{KeepOut, Malformed}
@@ -13,23 +14,29 @@ use Rattle.paper.specs.declared.Id.{Id}
 use Rattle.paper.specs.declared.Rect.{Rect}
 use Rattle.paper.specs.declared.Item.{Item}
 use Rattle.paper.specs.declared.Board.{Board}
+use Rattle.paper.specs.declared.Verdict.{Verdict}
 use Rattle.paper.specs.Limits.{most-blocks, most-corners, least-slice}
-use Rattle.paper.specs.Grid.{Dir}
+use Rattle.paper.specs.Grid.{Node, Dir, Pairs}
 use Rattle.paper.specs.Wire.{detour}
-use Rattle.paper.specs.Layout.{OnBoard, blockCount, Layout}
+use Rattle.paper.specs.Layout.{idOf, keep-outs, wires, OnBoard, blockCount, Below, Layout}
 use Rattle.paper.specs.Padding.{filled, boardOf}
 use Rattle.paper.specs.Reading.{Plain, fieldsOf}
-use Rattle.paper.specs.Answer.{plain, Check, _if_, _unless_, Gives, source, target, BeforeBounds, OnBlock, TheWire, way, checks, pinChecks, addTo, written, Replies}
+use Rattle.paper.specs.Answer.{named, plain, Check, _if_, _unless_, _about_naming_, Gives, source, target, BeforeBounds, Blocking, TheWire, way, checks, pinChecks, addTo, written, Replies}
 use Rattle.paper.specs.Laws.Back.{nodes, thingOf, layoutOf}
-use Rattle.paper.specs.Laws.Standing.{Standing}
+use Rattle.paper.specs.Laws.Standing.{Standing, thingAt}
 use Rattle.paper.specs.Laws.Feeds.{refusing}
+use Rattle.blocks.specs.declared.Blocks.{Blocks}
 use Rattle.blocks.specs.declared.Place.{Place}
+use Rattle.blocks.specs.declared.Look.the-variants.{KeepOuts, Wires as WiresAlone}
+use Rattle.blocks.specs.declared.Found.the-variants.{At, Nothing}
+use Rattle.blocks.specs.Flat.{FirstIs, HeldOf}
 use Rattle.items.specs.Items.{Whole}
 use Rattle.router.specs.declared.Route.{Route}
 use Rattle.router.specs.declared.Route.the-variants.{Wire, NoWire, TooManyRuns}
 use Rattle.router.specs.declared.Routed.{Routed}
 use Rattle.router.specs.Route.{codeOf, lengthOf, detourOf, cornersOf}
 use Rattle.feed.specs.declared.Wired.{Wired}
+use Rattle.feed.specs.declared.wires.Stop.{Stop}
 
 abbrev pub hereIs : ℕ → ℕ → Place
 hereIs x y = record { x0 = x; y0 = y; x1 = x; y1 = y }
@@ -46,17 +53,49 @@ Quietly l rec r = (s : List ℕ) → Replies l rec s s r
 
 -- ---- wires
 
+abbrev pub stopAt : ℕ → ℕ → ℕ → Stop
+stopAt k pin i = record { code = k; pin = pin; item = i }
+
+abbrev pub noStop : ℕ → Stop
+noStop k = stopAt k 0 0
+
+-- 11 with the first keep-out that blocks the place, or else 18 with the first wire; 0 where neither does
+unfoldable pub StopsPin : Blocks → Place → ℕ → Stop → Type 0
+StopsPin b p pin r =
+    ((r ≡ stopAt 11 pin (r .item)) × FirstIs b KeepOuts p (At (r .item)))
+    ⊎ ((r ≡ stopAt 18 pin (r .item)) × FirstIs b KeepOuts p Nothing × FirstIs b WiresAlone p (At (r .item)))
+    ⊎ ((r ≡ noStop 0) × FirstIs b KeepOuts p Nothing × FirstIs b WiresAlone p Nothing)
+
+-- the checks of one pin
+abbrev pub oneChecks : Layout → ℕ → Node → List Check
+oneChecks l i p = (11 about i naming Blocking l keep-outs p) ∷ (18 about i naming Blocking l wires p) ∷ []
+
 -- the checks of two pins before a wire is looked for
 abbrev pub startChecks : Layout → Pins → List Check
 startChecks l p =
     (9 unless (OnBoard (l .size) (source p) × OnBoard (l .size) (target p)))
     ∷ (10 if (source p ≡ target p))
-    ∷ (11 if (OnBlock l (source p) ⊎ OnBlock l (target p)))
-    ∷ []
+    ∷ oneChecks l 1 (source p)
+    ++ oneChecks l 2 (target p)
 
-abbrev pub noWire : ℕ → Wired
-noWire k = record {
-  code = k;
+-- what is said of the pins
+abbrev pub saidOf : Wired → Verdict
+saidOf w = named (w .code) (w .pin) (w .id)
+
+-- on whatever layout of the size that the blocks hold: what is said of the pins, about an item or about none
+abbrev pub PinsSaid : Layout → Pins → Stop → Type 0
+PinsSaid l p r =
+    ((¬ (r .pin ≡ 0)) × (¬ (r .code ≡ 0)) × (r .item < length (l .items)) × Gives (startChecks l p) (named (r .code) (r .pin) (idOf (thingAt (l .items) (r .item)))))
+    ⊎ ((r .pin ≡ 0) × Gives (startChecks l p) (plain (r .code)))
+
+unfoldable pub StopsPins : Size → Blocks → Pins → Stop → Type 0
+StopsPins s b p r = (l : Layout) → l .size ≡ s → HeldOf b wires l → Pairs Below (l .items) → PinsSaid l p r
+
+abbrev pub noWire : Verdict → Wired
+noWire v = record {
+  code = v .code;
+  pin = v .place;
+  id = v .id;
   blocks = 0;
   length = 0;
   detour = 0;
@@ -68,6 +107,8 @@ noWire k = record {
 abbrev pub wiredBy : Route → List ℕ → List ℕ → ℕ → Wired
 wiredBy (Wire n d k) xs ys b = record {
   code = codeOf (Wire n d k);
+  pin = 0;
+  id = 0;
   blocks = b;
   length = lengthOf (Wire n d k);
   detour = detourOf (Wire n d k);
@@ -75,8 +116,8 @@ wiredBy (Wire n d k) xs ys b = record {
   xs = xs;
   ys = ys;
 }
-wiredBy NoWire xs ys b = noWire (codeOf NoWire)
-wiredBy (TooManyRuns n) xs ys b = noWire (codeOf (TooManyRuns n))
+wiredBy NoWire xs ys b = noWire (plain (codeOf NoWire))
+wiredBy (TooManyRuns n) xs ys b = noWire (plain (codeOf (TooManyRuns n)))
 
 abbrev pub wiredOf : Routed → ℕ → Wired
 wiredOf r b = wiredBy (r .route) (r .xs) (r .ys) b
@@ -90,7 +131,7 @@ pub record Spelled (p : Pins) (w : Wired) (v : List Dir) : Type 0 where
   pub ys-are : w .ys ≡ filled 0 most-corners (map (λ q. q .y) (way p v))
 
 pub record Wires (l : Layout) (p : Pins) (w : Wired) : Type 0 where
-  pub code : Gives (pinChecks l p) (plain (w .code))
+  pub said : Gives (pinChecks l p) (saidOf w)
   pub blocks : w .code ≡ 0 → w .blocks ≡ blockCount (l .items)
   pub wire : w .code ≡ 0 → TheWire l p (Spelled p w)
 
@@ -102,7 +143,7 @@ unfoldable pub KeepOutCode : Layout → Id → Rect → ℕ → Type 0
 KeepOutCode l i r k = (n : ℕ) → Gives (checks l (KeepOut i r) n) (plain k)
 
 abbrev pub wiredReply : Board → Wired → Reply
-wiredReply b w = record { code = 0; length = w .length; detour = w .detour; corners = w .corners; board = b }
+wiredReply b w = record { code = 0; pin = 0; id = 0; length = w .length; detour = w .detour; corners = w .corners; board = b }
 
 abbrev pub wireItem : ℕ → Wired → Item
 wireItem i w = record { id = i; runs = w .corners - 1; xs = w .xs; ys = w .ys }
@@ -121,7 +162,7 @@ pub record Laying (b : Board) (i : Id) (w : Wired) (s : List ℕ) : Type 0 where
 -- it is laid, or there is no room
 unfoldable pub Lays : Board → Id → Wired → List ℕ → List ℕ → Reply → Type 0
 Lays b i w s s′ r =
-    ((most-blocks < w .blocks + (w .corners - 1)) × (r ≡ refusing 14 b) × (s′ ≡ s))
+    ((most-blocks < w .blocks + (w .corners - 1)) × (r ≡ refusing (plain 14) b) × (s′ ≡ s))
     ⊎ ((w .blocks + (w .corners - 1) ≤ most-blocks)
     × (r ≡ wiredReply (boardOf (addTo (layoutOf b) (thingOf (wireItem (i .number) w)))) w)
     × (s′ ≡ written (take (w .corners) (nodes (w .xs) (w .ys))) s))

@@ -19,7 +19,8 @@ ghost use Rattle.paper.specs.Limits.{most-corners};
 ghost use Rattle.paper.specs.Padding.{WellFormed};
 ghost use Rattle.paper.specs.Answer.{plain, Gives, written, Replies};
 ghost use Rattle.paper.specs.Laws.Back.{nodes, layoutOf};
-ghost use Rattle.feed.specs.Feeding.{KindIs, lentChecks, wiredReply, wireItem, Laying, Lays};
+ghost use Rattle.paper.specs.Laws.Feeds.{refusing};
+ghost use Rattle.feed.specs.Feeding.{KindIs, lentChecks, saidOf, wiredReply, wireItem, Laying, Lays};
 
 // x and y of the first n corners, from the slice's start.
 fn write(answer: &mut [u16], xs: &[u16; MOST_CORNERS], ys: &[u16; MOST_CORNERS], n: usize)
@@ -40,9 +41,26 @@ fn wire_reply(board: Board, w: Wired) -> Reply
 {
     Reply {
         code: 0,
+        pin: 0,
+        id: 0,
         length: w.length,
         detour: w.detour,
         corners: w.corners,
+        board: board,
+    }
+}
+
+// The reply that says what the pins get.
+fn refused(board: Board, w: Wired) -> Reply
+    ensures { λ r. ⌜ r ≡ refusing (saidOf w) board ⌝ }
+{
+    Reply {
+        code: w.code,
+        pin: w.pin,
+        id: w.id,
+        length: 0,
+        detour: 0,
+        corners: 0,
         board: board,
     }
 }
@@ -73,7 +91,7 @@ pub(crate) fn ask(board: Board, read: Record, answer: &mut [u16]) -> Reply
             }
             let found = wire(board, p);
             if found.code != 0 {
-                return told(board, found.code);
+                return refused(board, found);
             }
             let xs = found.xs;
             let ys = found.ys;
@@ -131,7 +149,7 @@ pub(crate) fn lay(board: Board, read: Record, answer: &mut [u16]) -> Reply
             }
             let found = wire(board, p);
             if found.code != 0 {
-                return told(board, found.code);
+                return refused(board, found);
             }
             lay_wire(board, id, found, answer)
         }

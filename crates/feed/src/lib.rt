@@ -18,17 +18,19 @@ use soundness::sound;
 ghost use mathlib.Core.Path.{_≡_};
 ghost use lib.ListN.{length, getD};
 ghost use Rattle.paper.specs.Padding.{WellFormed};
-ghost use Rattle.paper.specs.Answer.{Fed};
+ghost use Rattle.paper.specs.Answer.{plain, Fed};
 ghost use Rattle.paper.specs.Laws.Feeds.{refusing};
 
 // ---- replies without a wire
 
 // The reply with the code, this board and nothing else.
 fn told(board: Board, code: u8) -> Reply
-    ensures { λ r. ⌜ r ≡ refusing code board ⌝ }
+    ensures { λ r. ⌜ r ≡ refusing (plain code) board ⌝ }
 {
     Reply {
         code: code,
+        pin: 0,
+        id: 0,
         length: 0,
         detour: 0,
         corners: 0,
@@ -38,9 +40,11 @@ fn told(board: Board, code: u8) -> Reply
 
 // ---- wires
 
-// What the pins get: a code, and with code 0 the wire and how many blocks the board has.
+// What the pins get: a code, with 11 and 18 the pin and the item; with code 0 the wire and how many blocks the board has.
 struct Wired {
     code: u8,
+    pin: u8,
+    id: u16,
     blocks: usize,
     length: u32,
     detour: u32,

@@ -3,25 +3,32 @@ use crate::Wired;
 use crate::tests::on_board;
 use crate::tests::one_node;
 use blocks::Blocks;
+use blocks::Found;
 use blocks::Look;
 use blocks::Place;
 use blocks::hit;
 use blocks::of_board;
+use blocks::scan;
 use paper::Board;
 use paper::MOST_CORNERS;
 use paper::Pins;
+use paper::Size;
+use paper::Verdict;
 use router::Route;
 use router::Routed;
 use router::find_wire;
 ghost use mathlib.Core.Path.{_≡_};
-ghost use Prim.Native.Nat.{_≤_};
+ghost use Prim.Native.Nat.{_<_, _≤_};
 ghost use lib.ListN.{length};
-ghost use Rattle.paper.specs.Layout.{wires};
+ghost use Rattle.paper.specs.Layout.{idOf};
 ghost use Rattle.paper.specs.Padding.{WellFormed};
-ghost use Rattle.paper.specs.Answer.{plain, Gives};
+ghost use Rattle.paper.specs.Answer.{named};
 ghost use Rattle.paper.specs.Laws.Back.{layoutOf};
-ghost use Rattle.blocks.specs.Flat.{HeldOf};
-ghost use Rattle.feed.specs.Feeding.{hereIs, startChecks, wiredOf, noWire, Wires};
+ghost use Rattle.paper.specs.Laws.Standing.{thingAt};
+ghost use Rattle.blocks.specs.declared.Look.the-variants.{KeepOuts};
+ghost use Rattle.blocks.specs.declared.Found.the-variants.{Nothing};
+ghost use Rattle.blocks.specs.Flat.{Fits, FirstIs};
+ghost use Rattle.feed.specs.Feeding.{hereIs, noStop, StopsPin, StopsPins, wiredOf, noWire, Wires};
 
 fn here(x: u16, y: u16) -> Place
     ensures { λ r. ⌜ r ≡ hereIs x y ⌝ }
@@ -34,33 +41,98 @@ fn here(x: u16, y: u16) -> Place
     }
 }
 
-// The code that two pins get before a wire is looked for.
-fn pin_code(board: Board, held: Blocks, p: Pins) -> u8
-    requires { ⌜ WellFormed board × HeldOf held wires (layoutOf board) ⌝ }
-    ensures { λ r. ⌜ Gives (startChecks (layoutOf board) p) (plain r) ⌝ }
-{
-    if !on_board(board.size, p) {
-        return 9;
-    }
-    if one_node(p) {
-        return 10;
-    }
-    let s = here(p.sx, p.sy);
-    let t = here(p.tx, p.ty);
-    if hit(held, Look::Either, s) {
-        return 11;
-    }
-    if hit(held, Look::Either, t) {
-        return 11;
-    }
-    0
+// What stands in the way of two pins: a code, with 11 and 18 the pin and the place of the item among the board's; code 0 where nothing does.
+struct Stop {
+    code: u8,
+    pin: u8,
+    item: usize,
 }
 
-fn no_wire(code: u8) -> Wired
-    ensures { λ r. ⌜ r ≡ noWire code ⌝ }
+fn no_stop(code: u8) -> Stop
+    ensures { λ r. ⌜ r ≡ noStop code ⌝ }
+{
+    Stop {
+        code: code,
+        pin: 0,
+        item: 0,
+    }
+}
+
+fn near_wire(held: Blocks, at: Place, pin: u8) -> Stop
+    requires { ⌜ Fits held × FirstIs held KeepOuts at Nothing ⌝ }
+    ensures { λ r. ⌜ StopsPin held at pin r ⌝ }
+{
+    match scan(held, Look::Wires, at) {
+        Found::At(i) => Stop {
+            code: 18,
+            pin: pin,
+            item: i,
+        },
+        Found::Nothing => no_stop(0),
+    }
+}
+
+// Most pins are free, and one scan says so.
+fn pin_stop(held: Blocks, at: Place, pin: u8) -> Stop
+    requires { ⌜ Fits held ⌝ }
+    ensures { λ r. ⌜ StopsPin held at pin r ⌝ }
+{
+    if !hit(held, Look::Either, at) {
+        return no_stop(0);
+    }
+    match scan(held, Look::KeepOuts, at) {
+        Found::At(i) => Stop {
+            code: 11,
+            pin: pin,
+            item: i,
+        },
+        Found::Nothing => near_wire(held, at, pin),
+    }
+}
+
+// What two pins get before a wire is looked for.
+fn pins_stop(size: Size, held: Blocks, p: Pins) -> Stop
+    requires { ⌜ Fits held ⌝ }
+    ensures { λ r. ⌜ StopsPins size held p r ⌝ }
+{
+    if !on_board(size, p) {
+        return no_stop(9);
+    }
+    if one_node(p) {
+        return no_stop(10);
+    }
+    let s = pin_stop(held, here(p.sx, p.sy), 1);
+    if s.code != 0 {
+        return s;
+    }
+    pin_stop(held, here(p.tx, p.ty), 2)
+}
+
+// The id of the board's item at a place. The first item of a sort has the smallest.
+fn id_at(board: Board, i: usize) -> u16
+    requires { ⌜ WellFormed board × (i < length (layoutOf board .items)) ⌝ }
+    ensures { λ r. ⌜ r ≡ idOf (thingAt (layoutOf board .items) i) ⌝ }
+{
+    board.items[i].id
+}
+
+fn verdict(code: u8, pin: u8, id: u16) -> Verdict
+    ensures { λ r. ⌜ r ≡ named code pin id ⌝ }
+{
+    Verdict {
+        code: code,
+        place: pin,
+        id: id,
+    }
+}
+
+fn no_wire(said: Verdict) -> Wired
+    ensures { λ r. ⌜ r ≡ noWire said ⌝ }
 {
     Wired {
-        code: code,
+        code: said.code,
+        pin: said.place,
+        id: said.id,
         blocks: 0,
         length: 0,
         detour: 0,
@@ -81,6 +153,8 @@ fn tell(found: Routed, blocks: usize) -> Wired
             let ys = found.ys;
             Wired {
                 code: 0,
+                pin: 0,
+                id: 0,
                 blocks: blocks,
                 length: length,
                 detour: detour,
@@ -89,8 +163,8 @@ fn tell(found: Routed, blocks: usize) -> Wired
                 ys: ys,
             }
         }
-        Route::NoWire => no_wire(12),
-        Route::TooManyRuns(_) => no_wire(13),
+        Route::NoWire => no_wire(verdict(12, 0, 0)),
+        Route::TooManyRuns(_) => no_wire(verdict(13, 0, 0)),
     }
 }
 
@@ -100,9 +174,13 @@ pub(crate) fn wire(board: Board, p: Pins) -> Wired
     ensures { λ r. ⌜ Wires (layoutOf board) p r ⌝ }
 {
     let held = of_board(board, true);
-    let code = pin_code(board, held, p);
-    if code != 0 {
-        return no_wire(code);
+    let stop = pins_stop(board.size, held, p);
+    if stop.pin != 0 {
+        let i = stop.item;
+        return no_wire(verdict(stop.code, stop.pin, id_at(board, i)));
+    }
+    if stop.code != 0 {
+        return no_wire(verdict(stop.code, 0, 0));
     }
     let found = find_wire(board.size, held, p);
     let last = held.items;

@@ -1,6 +1,7 @@
--- Document 01, "Codes and their order": what a record is answered, and what an accepted one does.
+-- Document 01, "Codes and their order", with 11 and 18 as document 02 (order 2) parts them: what a record is answered, and what an accepted one
+-- does.
 -- Assumes nothing.
-use Prim.Native.Nat.{ℕ, _<_}
+use Prim.Native.Nat.{ℕ, _≤_, _<_}
 use mathlib.Core.Path.{_≡_}
 use mathlib.Core.Logic.{_⊎_}
 use mathlib.Core.List.{List, [], _∷_, _++_}
@@ -15,35 +16,41 @@ use Rattle.paper.specs.declared.Record.the-variants.{Bounds, KeepOut, La
 use Rattle.paper.specs.Limits.{most-blocks, most-runs, most-kept, least-slice}
 use Rattle.paper.specs.Grid.{Node, Dir, Area, Any, Blocked, node}
 use Rattle.paper.specs.Wire.{Legal, Answered, corners, runs, detour}
-use Rattle.paper.specs.Layout.{Thing, keep-out, wire, idOf, Sort, keep-outs, wires, sortOf, rectangle, blocksOf, blocksTo, blockCount, gridOf, RectFits, OnBoard, Turn, added, taken, add, without, Has, Used, undo, Layout, InRange, empty}
+use Rattle.paper.specs.Layout.{Thing, keep-out, wire, idOf, Sort, keep-outs, wires, sortOf, rectangle, blocksOf, blockCount, gridOf, RectFits, OnBoard, Turn, added, taken, add, without, Has, Used, undo, Layout, InRange, empty}
 use Rattle.paper.specs.Padding.{boardOf, Holds, WellFormed}
 use Rattle.paper.specs.Reading.{Reads}
 
 -- ---- the first code that applies
 
--- the code, about the run or the pin with this number; about none of them
+-- the code, about the run or the pin with this number, and the item with this id; about no item; about nothing
+abbrev pub named : ℕ → ℕ → ℕ → Verdict
+named k i j = record { code = k; place = i; id = j }
+
 abbrev pub placed : ℕ → ℕ → Verdict
-placed k i = record { code = k; place = i; id = 0 }
+placed k i = named k i 0
 
 abbrev pub plain : ℕ → Verdict
 plain k = placed k 0
 
-infix 30 _if_ _unless_ _about_if_
+infix 30 _if_ _unless_ _about_if_ _about_naming_
 pub data Check : Type 1 where
   _about_if_ : ℕ → ℕ → Type 0 → Check
   _unless_ : ℕ → Type 0 → Check
+  _about_naming_ : ℕ → ℕ → (ℕ → Type 0) → Check
 
 abbrev pub _if_ : ℕ → Type 0 → Check
 _if_ n p = n about 0 if p
 
--- the check applies, and gives the verdict; it does not apply
+-- The check applies, and gives the verdict; it does not apply. `naming` applies if some id has the property, and names the smallest that has.
 abbrev pub Applies : Check → Verdict → Type 0
 Applies (n about i if p) v = p × (v ≡ placed n i)
 Applies (n unless p) v = (¬ p) × (v ≡ plain n)
+Applies (n about i naming P) v = (j : ℕ) × P j × ((k : ℕ) → P k → j ≤ k) × (v ≡ named n i j)
 
 abbrev pub Idle : Check → Type 0
 Idle (n about i if p) = ¬ p
 Idle (n unless p) = p
+Idle (n about i naming P) = (j : ℕ) → ¬ (P j)
 
 -- the first that applies is given, and 0 where none does
 unfoldable pub Gives : List Check → Verdict → Type 0
@@ -69,8 +76,9 @@ Bars l to of a t = (sortOf t ≡ of) × Blocked (blocksOf (l .size .clearance) t
 abbrev pub Enters : Layout → Rect → Sort → Type 0
 Enters l r of = Any (Bars l keep-outs of (rectangle r)) (l .items)
 
-abbrev pub OnBlock : Layout → Node → Type 0
-OnBlock l p = Blocked (blocksTo (l .size .clearance) wires (l .items)) (node p)
+-- the item with the id is of the sort, and blocks the node
+abbrev pub Blocking : Layout → Sort → Node → ℕ → Type 0
+Blocking l of p i = Any (λ t. (idOf t ≡ i) × Bars l wires of (node p) t) (l .items)
 
 abbrev pub NoWire : Layout → Pins → Type 0
 NoWire l p = (w : List Dir) → ¬ (Legal (gridOf (l .size) (l .items)) (source p) (target p) w)
@@ -95,7 +103,10 @@ abbrev pub pinChecks : Layout → Pins → List Check
 pinChecks l p =
     (9 unless (OnBoard (l .size) (source p) × OnBoard (l .size) (target p)))
     ∷ (10 if (source p ≡ target p))
-    ∷ (11 if (OnBlock l (source p) ⊎ OnBlock l (target p)))
+    ∷ (11 about 1 naming Blocking l keep-outs (source p))
+    ∷ (18 about 1 naming Blocking l wires (source p))
+    ∷ (11 about 2 naming Blocking l keep-outs (target p))
+    ∷ (18 about 2 naming Blocking l wires (target p))
     ∷ (12 if NoWire l p)
     ∷ (13 if TheWire l p (TooManyRuns p))
     ∷ []
@@ -184,7 +195,11 @@ pub record Tells (long away : ℕ) (turned : List Node) (b : Board) (s s′ : Li
   pub board-is : r .board ≡ b
   pub slice-is : s′ ≡ written turned s
 
--- a refusal: every number 0 but the code, nothing written, and this board
+-- what the reply says
+abbrev pub verdict : Reply → Verdict
+verdict r = named (r .code) (r .pin) (r .id)
+
+-- a refusal: every number 0 but what is said, nothing written, and this board
 abbrev pub Refused : Board → List ℕ → List ℕ → Reply → Type 0
 Refused b s s′ r = Tells 0 0 [] b s s′ r
 
@@ -195,10 +210,6 @@ Accepted l rec s s′ r = (o : Outcome) × Does l rec o × Tells (o .long) (o .a
 abbrev pub left : Layout → Layout
 left l = l
 
--- what the reply says
-abbrev pub verdict : Reply → Verdict
-verdict r = plain (r .code)
-
 pub record Replies (l : Layout) (rec : Record) (s s′ : List ℕ) (r : Reply) : Type 0 where
   pub code : Gives (checks l rec (length s)) (verdict r)
   pub refused : ¬ (r .code ≡ 0) → Refused (boardOf (left l)) s s′ r
@@ -207,5 +218,5 @@ pub record Replies (l : Layout) (rec : Record) (s s′ : List ℕ) (r : Reply) :
 -- The whole promise: bytes fed to a board, with the slice s lent and s′ in it afterwards. Code 17 comes first.
 unfoldable pub Fed : Board → List ℕ → List ℕ → List ℕ → Reply → Type 0
 Fed b bytes s s′ r =
-    ((¬ (WellFormed b)) × (r .code ≡ 17) × Refused b s s′ r)
+    ((¬ (WellFormed b)) × (verdict r ≡ plain 17) × Refused b s s′ r)
     ⊎ ((l : Layout) × (rec : Record) × Holds b l × Reads bytes rec × Replies l rec s s′ r)

@@ -14,7 +14,7 @@ use Rattle.paper.specs.Grid.{Dir}
 use Rattle.paper.specs.Wire.{Answered}
 use Rattle.paper.specs.Layout.{Thing, keep-out, wire, gridOf, add, without, no-bounds}
 use Rattle.paper.specs.Reading.{Reads}
-use Rattle.paper.specs.Answer.{source, target, way, Fed}
+use Rattle.paper.specs.Answer.{source, target, way, verdict, Fed}
 
 -- ---- the history
 
@@ -76,7 +76,7 @@ pub record SameItems (b₁ b₂ : Board) : Type 0 where
 
 -- lent equal slices, they hold s₁ and s₂ afterwards
 pub record Alike (s₁ s₂ : List ℕ) (r₁ r₂ : Reply) : Type 0 where
-  pub code : r₁ .code ≡ r₂ .code
+  pub said : verdict r₁ ≡ verdict r₂
   pub long : r₁ .length ≡ r₂ .length
   pub away : r₁ .detour ≡ r₂ .detour
   pub turned : r₁ .corners ≡ r₂ .corners

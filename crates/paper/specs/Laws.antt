@@ -33,8 +33,10 @@ pub mod Decided
 pub mod Certificate
 pub mod Distances
 pub mod Feeds
+pub mod Smallest
 pub mod TableP
 pub mod Damaged
+pub mod Blamed
 -- wires drawn by hand
 pub mod Bent
 pub mod Walked

@@ -78,9 +78,12 @@ pub struct Verdict {
     pub id: u16,
 }
 
+// `pin`, `id`: with 11 and 18 the pin, 1 or 2, and the item that blocks it; else 0.
 // `corners`: how many corners stand in the answer slice, 0 unless a lay or an ask was accepted.
 pub struct Reply {
     pub code: u8,
+    pub pin: u8,
+    pub id: u16,
     pub length: u32,
     pub detour: u32,
     pub corners: usize,

@@ -1,6 +1,6 @@
 -- Document 01, "The sheet": the lines that a file's bytes give.
 -- Assumes nothing.
-use Prim.Native.Nat.{ℕ, _+_, _*_, _≤_, _<_}
+use Prim.Native.Nat.{ℕ, zero, suc, _+_, _*_, _≤_, _<_}
 use mathlib.Core.Path.{_≡_}
 use mathlib.Core.Bool.{Bool, true, false}
 use mathlib.Core.Logic.{_⊎_}
@@ -9,11 +9,12 @@ use lib.ListN.{length, getD, take, drop}
 use lib.Dec.{ltb}
 use Rattle.paper.specs.declared.Board.{Board}
 use Rattle.paper.specs.declared.Reply.{Reply}
+use Rattle.paper.specs.declared.Verdict.{Verdict}
 use Rattle.paper.specs.Limits.{least-slice}
 use Rattle.paper.specs.Grid.{All}
 use Rattle.paper.specs.Layout.{fresh}
 use Rattle.paper.specs.Padding.{boardOf, WellFormed}
-use Rattle.paper.specs.Answer.{Fed}
+use Rattle.paper.specs.Answer.{verdict, Fed}
 use Rattle.paper.specs.History.{Call, FedAll}
 use Rattle.sheet.specs.declared.Printed.{Printed}
 use Rattle.text.specs.Text.{Part, number, byte, Spells, Puts}
@@ -40,14 +41,19 @@ unfoldable pub wireIn : ℕ → ℕ → List ℕ → List Part
 wireIn long away [] = []
 wireIn long away (x ∷ ns) = byte space ∷ number long ∷ byte space ∷ number away ∷ cornersIn (x ∷ ns)
 
--- The line of the record with the number n: of the slice it shows x and y of each corner that the reply counts. An accepted lay or
--- ask has corners, and nothing else has (`corners-told`).
-abbrev pub lineIn : ℕ → ℕ → ℕ → ℕ → ℕ → List ℕ → List Part
-lineIn n code long away corners slice =
-    number n ∷ byte space ∷ number code ∷ wireIn long away (take (corners + corners) slice) ++ byte line-end ∷ []
+-- the pin and the item's id; nothing where no pin is named
+unfoldable pub blameIn : ℕ → ℕ → List Part
+blameIn zero id = []
+blameIn (suc k) id = byte space ∷ number (suc k) ∷ byte space ∷ number id ∷ []
+
+-- The line of the record with the number n. A pin is named exactly with 11 and 18 (paper's `pin-told`). Of the slice the line shows x and y of
+-- each corner that the reply counts; an accepted lay or ask has corners, and nothing else has (`corners-told`).
+abbrev pub lineIn : ℕ → Verdict → ℕ → ℕ → ℕ → List ℕ → List Part
+lineIn n said long away corners slice =
+    number n ∷ byte space ∷ number (said .code) ∷ blameIn (said .place) (said .id) ++ wireIn long away (take (corners + corners) slice) ++ byte line-end ∷ []
 
 abbrev pub lineOf : ℕ → Reply → List ℕ → List Part
-lineOf n r slice = lineIn n (r .code) (r .length) (r .detour) (r .corners) slice
+lineOf n r slice = lineIn n (verdict r) (r .length) (r .detour) (r .corners) slice
 
 abbrev pub Line : ℕ → Reply → List ℕ → List ℕ → Type 0
 Line n r slice bytes = Spells (lineOf n r slice) bytes
@@ -92,7 +98,7 @@ pub record SheetOf (file sheet : List ℕ) : Type 0 where
 
 -- the room that a line is lent (`LINE_ROOM`)
 abbrev pub line-room : ℕ
-line-room = 336
+line-room = 346
 
 -- the record at a place, with its number, fed to the board b: its line, the place after it, and the board that is left
 pub record Steps (file : List ℕ) (at n : ℕ) (b : Board) (line : List ℕ) (next : ℕ) (b′ : Board) : Type 0 where

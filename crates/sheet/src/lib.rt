@@ -4,6 +4,7 @@ use items::begin;
 use paper::Board;
 use paper::LEAST_SLICE;
 use paper::Size;
+use paper::Verdict;
 use text::put_byte;
 use text::put_number;
 use text::put_word;
@@ -12,13 +13,13 @@ ghost use mathlib.Core.List.{[], _∷_};
 ghost use Prim.Native.Nat.{_+_, _-_, _*_, _≤_, _<_, min};
 ghost use lib.ListN.{length, take};
 ghost use Rattle.text.specs.Text.{Part.number, Part.byte, Writes};
-ghost use Rattle.sheet.specs.Sheet.{cornersIn, wireIn, lineIn, lastLine, line-room, StepsIn};
+ghost use Rattle.sheet.specs.Sheet.{cornersIn, wireIn, blameIn, lineIn, lastLine, line-room, StepsIn};
 ghost use Rattle.paper.specs.Layout.{fresh};
 ghost use Rattle.paper.specs.Padding.{boardOf, WellFormed};
 
-// The room that a line is lent. A line has 332 bytes at most: a number of 5 digits, a code of 3, a length and a detour of 10, 25
-// corners of 11, a space before each but the first, and its end. The rest is for `put_number`, which asks for 10 places.
-pub const LINE_ROOM: usize = 336;
+// The room that a line is lent: a number of 5 digits, a code of 3, a pin of 3 and an id of 5, a length and a detour of 10, 25 corners of
+// 11, a space before each but the first, and its end are 342 bytes. The rest is for `put_number`, which asks for 10 places.
+pub const LINE_ROOM: usize = 346;
 
 // ---- a line
 
@@ -69,23 +70,38 @@ fn put_wire(
     put_corners(buffer, next, corners, answer)
 }
 
+// The pin and the item's id; nothing where no pin is named.
+fn put_blame(buffer: &mut [u8], at: usize, pin: u8, id: u16) -> usize
+    requires { ⌜ at + 15 ≤ length (now buffer) ⌝ }
+    ensures { λ r. ⌜ Writes (blameIn pin id) (now (buffer .entry)) at (now (buffer .exit)) r × (r ≤ at + 10) ⌝ }
+{
+    if pin == 0 {
+        return at;
+    }
+    let first = put_byte(buffer, at, b' ');
+    let named = put_number(buffer, first, pin as u32);
+    let second = put_byte(buffer, named, b' ');
+    put_number(buffer, second, id as u32)
+}
+
 // The line of the record with the number n, from the buffer's start: how many bytes it has.
 fn put_line(
     buffer: &mut [u8],
     n: u32,
-    code: u8,
+    said: Verdict,
     long: u32,
     away: u32,
     corners: usize,
     answer: &[u16],
 ) -> usize
     requires { ⌜ (n ≤ 65535) × (corners ≤ 25) × (corners + corners ≤ length (now answer)) × (line-room ≤ length (now buffer)) ⌝ }
-    ensures { λ r. ⌜ Writes (lineIn n code long away corners (now (answer .entry))) (now (buffer .entry)) 0 (now (buffer .exit)) r ⌝ }
+    ensures { λ r. ⌜ Writes (lineIn n said long away corners (now (answer .entry))) (now (buffer .entry)) 0 (now (buffer .exit)) r ⌝ }
 {
     let first = put_number(buffer, 0, n);
     let spaced = put_byte(buffer, first, b' ');
-    let coded = put_number(buffer, spaced, code as u32);
-    let next = put_wire(buffer, coded, long, away, corners, answer);
+    let coded = put_number(buffer, spaced, said.code as u32);
+    let blamed = put_blame(buffer, coded, said.place, said.id);
+    let next = put_wire(buffer, blamed, long, away, corners, answer);
     put_byte(buffer, next, b'\n')
 }
 
@@ -144,7 +160,11 @@ pub fn step(file: &[u8], at: usize, n: u32, board: Board, line: &mut [u8]) -> Pr
     let written = put_line(
         line,
         n,
-        reply.code,
+        Verdict {
+            code: reply.code,
+            place: reply.pin,
+            id: reply.id,
+        },
         reply.length,
         reply.detour,
         reply.corners,

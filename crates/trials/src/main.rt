@@ -12,7 +12,7 @@
 //   mark, equal                remembers the board; prints whether the board is that one, number for number
 //   Size W H C, Items N, Kept N, Put PLACE ID RUNS X:Y.., Change PLACE KIND ID RUNS X:Y..
 //                              written into the board, as a caller may hand in any
-// A record fed prints its number in the trial, code, length, detour, how many corners, the corners, `same` or `changed` for the board,
+// A record fed prints its number in the trial, code, the pin and the id if not both are 0, length, detour, how many corners, the corners, `same` or `changed` for the board,
 // and `kept` if the numbers past the last corner are the marks that stood there before, else `touched`. A drawn wire prints `drawn`, its code,
 // run and excess.
 mod bytes;

@@ -45,9 +45,23 @@ fn say_corners(slice: [u16; MOST_LENT], corners: usize)
     }
 }
 
+// The pin and the item, where one is named.
+fn say_named(pin: u8, id: u16) {
+    if pin == 0 {
+        if id == 0 {
+            return;
+        }
+    }
+    say(b" pin");
+    say_next(pin as u64);
+    say(b" id");
+    say_next(id as u64);
+}
+
 pub(crate) fn say_reply(reply: Reply, slice: [u16; MOST_LENT], same: bool) {
     let corners = least(reply.corners, MOST_CORNERS);
     say_next(reply.code as u64);
+    say_named(reply.pin, reply.id);
     say_next(reply.length as u64);
     say_next(reply.detour as u64);
     say_next(reply.corners as u64);

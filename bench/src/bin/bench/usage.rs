@@ -9,7 +9,7 @@ usage: bench COMMAND, reading standard input and writing standard output
 
   print                   records -> the sheet's lines
   gen SEED STYLE [COUNT]  nothing -> a random record file
-  tally                   records -> how often each code came
+  tally                   records -> how often each code came, 11 and 18 by pin
   pack                    readable text -> records
   unpack                  records -> readable text
   draw                    records -> an SVG picture of the board

@@ -106,6 +106,6 @@ fn misshapen(corners: &[Node], run: usize) -> bool {
 }
 
 /// Every node of a wire.
-fn nodes(corners: &[Node]) -> impl Iterator<Item = Node> + '_ {
+pub fn nodes(corners: &[Node]) -> impl Iterator<Item = Node> + '_ {
     corners[..1].iter().copied().chain(unit_edges(corners).map(|(_, node)| node))
 }

@@ -3,20 +3,19 @@
 use Prim.Native.Nat.{ℕ, zero, suc, _<_}
 use native.Mathlib.Nat.{eq-or-lt-of-le}
 use native.Mathlib.Omega.{arith}
-use mathlib.Core.Path.{_≡_, refl, sym, ap, subst}
-use mathlib.Core.Bool.{Bool, true}
+use mathlib.Core.Path.{_≡_, refl, sym, ap, subst, _∙_}
+use mathlib.Core.Bool.{Bool, true, false}
 use mathlib.Core.Logic.{inl, inr, ⊎-elim}
 use mathlib.Core.List.{List, [], _∷_}
 use lib.ListN.{length}
 use lib.Dec.{T}
 use Rattle.paper.specs.declared.Rect.{Rect}
-use Rattle.paper.specs.Grid.{Area, Any, Hits, Blocked}
-use Rattle.paper.specs.Layout.{Thing, keep-out, wire, Sort, keep-outs, wires, sortOf, blocksOf, blocksTo, Layout}
+use Rattle.paper.specs.Grid.{Area, Any, Blocked}
+use Rattle.paper.specs.Layout.{Thing, keep-out, wire, Sort, keep-outs, wires, sortOf, blocksOf, Layout}
 use Rattle.paper.specs.Answer.{Bars}
-use Rattle.paper.specs.Laws.Lists.{any-imp, any-split}
+use Rattle.paper.specs.Laws.Lists.{any-imp}
 use Rattle.paper.specs.Laws.Among.{ltb-cases}
 use Rattle.paper.specs.Laws.Says.{Says, says-always, says-never}
-use Rattle.paper.specs.Laws.Apart.{blocked-left, blocked-right}
 use Rattle.blocks.specs.declared.Blocks.{Blocks}
 use Rattle.blocks.specs.declared.Place.{Place}
 use Rattle.blocks.specs.declared.Look.{Look}
@@ -109,37 +108,17 @@ module _ {b : Blocks} {c : ℕ} {to : Sort} {ts : List Thing} (held : Held b c t
       first-of (StopsAt c to look p) ts i (s .0) (s .1) (λ j l q. f .1 j l (thing-stops j (omega (arith, s .0)) q))
   scan-item Nothing f = λ a. let s = some-at (StopsAt c to look p) ts a in f (s .0) (thing-stops (s .0) (s .1) (s .2))
 
--- ---- whether something is blocked
+-- ---- whether something was found
 
 -- an item was found just if P
 abbrev Whether : Found → Type 0 → Type 0
 Whether (At i) P = P
 Whether Nothing P = ¬ P
 
-whether-any : (P : Thing → Type 0) (Q : Type 0) (ts : List Thing) (r : Found) → (Any P ts → Q) → (Q → Any P ts) → FoundAmong P ts r
-    → Whether r Q
+whether-any : (P : Thing → Type 0) (ts : List Thing) (r : Found) → FoundAmong P ts r → Whether r (Any P ts)
 unfolding FoundAmong
-whether-any P Q ts (At i) to from f = to (first-any P ts i f)
-whether-any P Q ts Nothing to from f = λ q. f (from q)
-
-module _ (c : ℕ) (to : Sort) (p : Place) where
-  any-blocked : (ts : List Thing) → Any (StopsAt c to Either p) ts → Blocked (blocksTo c to ts) (placeArea p)
-  unfolding Any StopsAt blocksTo
-  any-blocked [] a = absurd a
-  any-blocked (t ∷ ts) (inl s) = blocked-left (blocksOf c to t) (blocksTo c to ts) (placeArea p) (s .1)
-  any-blocked (t ∷ ts) (inr a) = blocked-right (blocksOf c to t) (blocksTo c to ts) (placeArea p) (any-blocked ts a)
-
-  blocked-any : (ts : List Thing) → Blocked (blocksTo c to ts) (placeArea p) → Any (StopsAt c to Either p) ts
-  unfolding Any StopsAt blocksTo Blocked
-  blocked-any [] h = absurd h
-  blocked-any (t ∷ ts) h =
-      ⊎-elim (λ q. inl (refl, q)) (λ q. inr (blocked-any ts q)) (any-split (λ b. Hits b (placeArea p)) (blocksOf c to t) (blocksTo c to ts) h)
-
--- by any item: a pin's node, a unit edge
-scan-blocked : {b : Blocks} {c : ℕ} {to : Sort} {ts : List Thing} → Held b c to ts → (p : Place) (r : Found) → FirstIs b Either p r
-    → Whether r (Blocked (blocksTo c to ts) (placeArea p))
-scan-blocked {c} {to} {ts} held p r f =
-    whether-any (StopsAt c to Either p) _ ts r (any-blocked c to p ts) (blocked-any c to p ts) (scan-item held Either p r f)
+whether-any P ts (At i) f = first-any P ts i f
+whether-any P ts Nothing f = f
 
 -- ---- whether something of a sort blocks it
 
@@ -161,7 +140,7 @@ own-sort (keep-out i r) = refl
 own-sort (wire i ps) = refl
 
 -- by an item of the sort, whatever the place
-scan-sort : {b : Blocks} (l : Layout) (to : Sort) → HeldOf b to l → (p : Place) (s : Sort) (r : Found) → FirstIs b (lookFor s) p r
+pub scan-sort : {b : Blocks} (l : Layout) (to : Sort) → HeldOf b to l → (p : Place) (s : Sort) (r : Found) → FirstIs b (lookFor s) p r
     → FoundAmong (Bars l to s (placeArea p)) (l .items) r
 unfolding Bars StopsAt
 scan-sort l to held p s r f =
@@ -170,7 +149,7 @@ scan-sort l to held p s r f =
 
 scan-any : {b : Blocks} (l : Layout) (to : Sort) → HeldOf b to l → (p : Place) (s : Sort) (r : Found) → FirstIs b (lookFor s) p r
     → Whether r (Any (Bars l to s (placeArea p)) (l .items))
-scan-any l to held p s r f = whether-any (Bars l to s (placeArea p)) _ (l .items) r (λ a. a) (λ a. a) (scan-sort l to held p s r f)
+scan-any l to held p s r f = whether-any (Bars l to s (placeArea p)) (l .items) r (scan-sort l to held p s r f)
 
 -- ---- the same of `hit`
 
@@ -182,11 +161,16 @@ hit-says : (b : Blocks) (look : Look) (p : Place) (P : Type 0) (r : Bool) → ((
 unfolding Hit
 hit-says b look p P r each h = subst (λ r. Says r P) (sym (h .2)) (says-whether (h .0) P (each (h .0) (h .1)))
 
-pub hit-blocked : {b : Blocks} {c : ℕ} {to : Sort} {ts : List Thing} → Held b c to ts → (p : Place) (r : Bool) → Hit b Either p r
-    → Says r (Blocked (blocksTo c to ts) (placeArea p))
-hit-blocked held p r h = hit-says _ Either p _ r (scan-blocked held p) h
-
 -- of the area that the place is
 pub hit-any : {b : Blocks} (l : Layout) (to : Sort) → HeldOf b to l → (p : Place) (a : Area) → placeArea p ≡ a → (s : Sort) (r : Bool)
     → Hit b (lookFor s) p r → Says r (Any (Bars l to s a) (l .items))
 hit-any l to held p a e s r h = subst (λ a. Says r (Any (Bars l to s a) (l .items))) e (hit-says _ (lookFor s) p _ r (scan-any l to held p s) h)
+
+-- where nothing at all blocks the place, nothing of a sort does
+pub hit-none : (b : Blocks) (p : Place) (r : Bool) → r ≡ false → Hit b Either p r → (look : Look) → FirstIs b look p Nothing
+unfolding Hit
+hit-none b p r z h look = go (h .0) (h .1) (h .2)
+  where
+    go : (f : Found) → FirstIs b Either p f → r ≡ isFound f → FirstIs b look p Nothing
+    go (At i) f e = absurd (subst T (sym e ∙ z) tt)
+    go Nothing f e = unfold FirstIs Stops in λ j s. f j (s .0, refl, s .2)

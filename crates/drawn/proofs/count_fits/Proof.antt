@@ -15,7 +15,7 @@ returns-2 c = says-never (λ h. omega (arith, h .1, h .3, c .if2 .taken))
 returns-3 : tie.Need-returns-3
 returns-3 c =
     let n = c .before .before .args .n in
-    says-as (λ h. (n / 2, omega (arith, c .if2 .left), omega (arith, h), omega (arith, c .before .if1 .left))) (λ h. omega (arith, h .2, h .3)) (says-le n 50)
+    says-as (λ h. (n / 2, omega (arith, c .if2 .left), omega (arith, h), omega (arith, c .before .if1 .left))) (λ h. omega (arith, h .2, h .3)) (says-le (n / 2) 25)
 
 pub count-fits-spec : {M : Type 1} → statement M
 count-fits-spec = tie.close (tie.spec returns returns-2 returns-3)

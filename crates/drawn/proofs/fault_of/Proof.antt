@@ -1,6 +1,7 @@
 -- `drawn::fault_of` meets its contract: shapes, then places.
 -- Assumes nothing.
 use borrow.Author.Needs.{needs}
+use Rattle.blocks.specs.Laws.Held.{held-fits}
 use Rattle.drawn.specs.Laws.Places.{ill-shaped, well-shaped}
 use Rattle.drawn.proofs.fault_of.Statement.{statement}
 use Rattle.drawn.proofs.fault_of.Tie as tie
@@ -12,7 +13,9 @@ returns : tie.Need-returns
 returns c = ill-shaped _ _ _ _ _ (c .before .before .bad-shape .ensures) (c .if1 .taken)
 
 bad-run-requires : tie.Need-bad-run-requires
-bad-run-requires c κs = search needs
+bad-run-requires c κs =
+    let s = c .before .before .before in
+    (held-fits (s .pre .0 .2), s .pre .1)
 
 returns-2 : tie.Need-returns-2
 returns-2 c = well-shaped _ _ _ _ _ (c .before .before .before .bad-shape .ensures) (c .before .if1 .left) _ (c .bad-run .ensures)

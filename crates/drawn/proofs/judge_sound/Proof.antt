@@ -2,7 +2,7 @@
 -- Assumes nothing.
 use Prim.Native.Nat.{_+_, _-_, _/_, _≤_}
 use native.Mathlib.Omega.{arith}
-use mathlib.Core.Path.{_≡_}
+use mathlib.Core.Path.{_≡_, refl}
 use lib.ListN.{length}
 use borrow.Author.Needs.{needs}
 use Rattle.paper.specs.Answer.{Gives, BeforeBounds}
@@ -10,7 +10,6 @@ use Rattle.paper.specs.Drawn.{drawn, CountFits, cornerChecks}
 use Rattle.paper.specs.Laws.Back.{layoutOf, well-formed}
 use Rattle.paper.specs.Laws.Next.{laid}
 use Rattle.paper.specs.Laws.Says.{denied, not-denied}
-use Rattle.blocks.specs.Laws.Held.{held-fits}
 use Rattle.shapes.specs.Faults.{faultOf}
 use Rattle.drawn.specs.Laws.Judging.{before-bounds, ill-counted, faulty, faultless, accepted, drawn-says, drawn-asks, drawn-exceeds}
 use Rattle.drawn.proofs.judge_sound.Statement.{statement}
@@ -63,7 +62,8 @@ of-board-requires : tie.Need-of-board-requires
 of-board-requires c κs = search needs
 
 fault-of-requires : tie.Need-fault-of-requires
-fault-of-requires c κs = (held-fits (c .of-board .ensures), runs-few (c .before .before) .2)
+unfolding layoutOf
+fault-of-requires c κs = ((layoutOf (c .before .before .before .before .before .before .before .args .board), refl, c .of-board .ensures), runs-few (c .before .before) .2)
 
 refused-requires-3 : tie.Need-refused-requires-3
 refused-requires-3 c κs = search needs

@@ -1,10 +1,9 @@
 -- What the router's answer says of a shortest wire.
 -- Assumes nothing.
-use Prim.Native.Nat.{ℕ, _+_, _-_, _≤_}
+use Prim.Native.Nat.{ℕ, _-_, _≤_}
 use native.Mathlib.Omega.{arith}
 use mathlib.Core.Path.{_≡_, refl}
 use mathlib.Core.List.{List}
-use lib.ListN.{length}
 use Rattle.paper.specs.Grid.{Node, Dir, Grid}
 use Rattle.paper.specs.Wire.{Legal, ToGo}
 use Rattle.paper.specs.Laws.Told.{answered-to-go}

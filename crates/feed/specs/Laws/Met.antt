@@ -14,11 +14,11 @@ use Rattle.paper.specs.Grid.{Node, All, Any, Blocked, node}
 use Rattle.paper.specs.Layout.{Thing, idOf, wires, blocksOf, blocksTo, without, Has, Layout, fresh}
 use Rattle.paper.specs.Padding.{boardOf, Holds, WellFormed}
 use Rattle.paper.specs.Reading.{Reads}
-use Rattle.paper.specs.Answer.{verdict, source, OnBlock, checks, flat, written, Replies, Fed}
+use Rattle.paper.specs.Answer.{verdict, source, checks, flat, written, Replies, Fed}
 use Rattle.paper.specs.History.{start, Past, FedAll, Story, SameItems, Alike}
 use Rattle.paper.specs.TableP.{Row, asking, layoutIn, replyIn, Stands}
 use Rattle.paper.specs.Laws.Apart.{blocked-left, blocked-right}
-use Rattle.paper.specs.Laws.Among.{without-nil, without-cases}
+use Rattle.paper.specs.Laws.Among.{without-cases}
 use Rattle.paper.specs.Laws.Back.{layoutOf, one-layout}
 use Rattle.paper.specs.Laws.Read.{one-record}
 use Rattle.paper.specs.Laws.Checks.{Spared}
@@ -27,6 +27,7 @@ use Rattle.paper.specs.Laws.One.{one-reply}
 use Rattle.paper.specs.Laws.Story.{history}
 use Rattle.paper.specs.Laws.Alike.{answer-alike}
 use Rattle.paper.specs.Laws.TableP.{table-p}
+use Rattle.feed.specs.Laws.Wiring.{clear-node}
 use Rattle.feed.specs.Demands.{Router, Feeds, Asking, callsOf, leftBy, Made, RefusesAll, OneWire, OnlyFirst, SpeaksRefusing}
 
 -- ---- demand 1: a refusal leaves everything as it was
@@ -93,7 +94,7 @@ module _ (f : Router) (feeds : Feeds f) where
       omega arith
 
   -- the table's boards are not fresh
-  later-zero : (r : Row) → Stands r → OnlyFirst f → r .code ≡ 0
+  later-zero : (r : Row) → Stands r → OnlyFirst f → r .said .code ≡ 0
   unfolding OnlyFirst boardOf
   later-zero r st h =
       let other : ¬ (boardOf (layoutIn r) ≡ boardOf fresh) = λ e. let z : _≡_ {A = ℕ} 10 0 = ap (λ b. b .size .w) e in omega arith in
@@ -128,11 +129,12 @@ still-blocked c i p t (u ∷ us) (inr h) n b =
 
 -- and an ask from there is not accepted
 pub blocked-refused : (b : Board) (bytes s s′ : List ℕ) (r : Reply) (l : Layout) (p : Pins) → Fed b bytes s s′ r → Holds b l → Reads bytes (Ask p)
-    → OnBlock l (source p) → ¬ (r .code ≡ 0)
+    → Blocked (blocksTo (l .size .clearance) wires (l .items)) (node (source p)) → ¬ (r .code ≡ 0)
 unfolding Fed WellFormed Spared checks
 blocked-refused b bytes s s′ r l p (inl f) k rd h z = f .0 (l, k)
 blocked-refused b bytes s s′ r l p (inr f) k rd h z =
     let m : f .0 ≡ l = one-layout b (f .0) l (f .2) k in
     let e : f .1 ≡ Ask p = one-record bytes (f .1) (Ask p) (f .3) rd in
     let g : Replies l (Ask p) s s′ r = subst₂ (λ l rec. Replies l rec s s′ r) m e (f .4) in
-    spares l (Ask p) (length s) (verdict r) z (g .code) 11 (inl h)
+    let c = spares l (Ask p) (length s) (verdict r) z (g .code) in
+    clear-node l (source p) (c 11) (c 18) h

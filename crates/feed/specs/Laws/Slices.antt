@@ -8,7 +8,6 @@ use mathlib.Core.List.{List, [], _∷_, _++_, map, append-assoc}
 use lib.ListN.{length, take, drop, getD, set, length-append, replicate}
 use lib.Seq.{take-suc, drop-cons, set-at, append-snoc, length-take-le}
 use Rattle.paper.specs.Grid.{Node}
-use Rattle.paper.specs.Padding.{filled}
 use Rattle.paper.specs.Answer.{flat, written}
 use Rattle.paper.specs.Laws.Back.{nodes, length-nodes}
 

@@ -1,6 +1,6 @@
 -- The replies to a lay and an ask: refused before, at or after the pins, or the wire told.
 -- Assumes nothing.
-use Prim.Native.Nat.{ℕ, suc, _+_, _-_, _≤_, _<_}
+use Prim.Native.Nat.{ℕ, _+_, _-_, _≤_, _<_}
 use native.Mathlib.Omega.{arith}
 use mathlib.Core.Path.{_≡_, refl, sym, ap, subst, subst₂, _∙_}
 use mathlib.Core.Logic.{inl, inr}
@@ -8,25 +8,25 @@ use mathlib.Core.List.{List, [], _∷_, _++_, map}
 use lib.ListN.{length, take, replicate, length-map, length-append, length-replicate}
 use Rattle.paper.specs.declared.Id.{Id}
 use Rattle.paper.specs.declared.Pins.{Pins}
-use Rattle.paper.specs.declared.Item.{Item}
 use Rattle.paper.specs.declared.Board.{Board}
 use Rattle.paper.specs.declared.Reply.{Reply}
+use Rattle.paper.specs.declared.Verdict.{Verdict}
 use Rattle.paper.specs.declared.Record.{Record}
 use Rattle.paper.specs.declared.Record.the-variants.{Lay, Ask}
-use Rattle.paper.specs.Limits.{most-blocks, most-runs, most-corners, least-slice}
+use Rattle.paper.specs.Limits.{most-runs, most-corners, least-slice}
 use Rattle.paper.specs.Grid.{Node, Dir}
 use Rattle.paper.specs.Wire.{Answered, runs}
 use Rattle.paper.specs.Layout.{wire, areas, blockCount, gridOf, Used, Layout}
 use Rattle.paper.specs.Padding.{filled, itemOf, boardOf, WellFormed}
 use Rattle.paper.specs.Answer.{plain, Check, _if_, Gives, source, target, BeforeBounds, TheWire, way, TooManyRuns, TooManyBlocks, checks, pinChecks, addTo, told, Does, written, Tells, Replies}
 use Rattle.paper.specs.Laws.Back.{nodes, thingOf, layoutOf, well-formed, ReadsBack, wire-back}
-use Rattle.paper.specs.Laws.Checks.{Coded, Clear, clear-of, gives-first, gives-then}
+use Rattle.paper.specs.Laws.Checks.{Coded, Clear, clear-of, of-clear, gives-first, gives-then}
 use Rattle.paper.specs.Laws.Feeds.{refusing}
 use Rattle.paper.specs.Laws.Least.{one-answer}
 use Rattle.paper.specs.Laws.Standing.{well-standing}
 use Rattle.items.specs.Items.{Whole}
 use Rattle.feed.specs.declared.Wired.{Wired}
-use Rattle.feed.specs.Feeding.{lentChecks, Spelled, Wires, wiredReply, wireItem, Laying, Lays}
+use Rattle.feed.specs.Feeding.{lentChecks, saidOf, Spelled, Wires, wiredReply, wireItem, Laying, Lays}
 use Rattle.feed.specs.Laws.Replying.{refused, accepted, laid-now, items-few-now}
 use Rattle.feed.specs.Laws.Wiring.{two-corners, runs-corners}
 use Rattle.feed.specs.Laws.Slices.{nodes-are}
@@ -37,9 +37,12 @@ lent-clear : (l : Layout) (n : ℕ) → Gives (lentChecks l n) (plain 0) → Cle
 unfolding Coded
 lent-clear l n g = clear-of (lentChecks l n) (plain 0) refl (omega arith) g
 
-pins-clear : (l : Layout) (p : Pins) → Gives (pinChecks l p) (plain 0) → Clear (pinChecks l p)
+pins-clear-of : (l : Layout) (p : Pins) (v : Verdict) → v .code ≡ 0 → Gives (pinChecks l p) v → Clear (pinChecks l p)
 unfolding Coded
-pins-clear l p g = clear-of (pinChecks l p) (plain 0) refl (omega arith) g
+pins-clear-of l p v z g = clear-of (pinChecks l p) v z (omega arith) g
+
+pins-clear : (l : Layout) (p : Pins) → Gives (pinChecks l p) (plain 0) → Clear (pinChecks l p)
+pins-clear l p g = pins-clear-of l p (plain 0) refl g
 
 pub lent-ok : (l : Layout) (n : ℕ) → Gives (lentChecks l n) (plain 0) → (¬ (BeforeBounds l)) × (least-slice ≤ n)
 unfolding Clear
@@ -47,7 +50,7 @@ lent-ok l n g = let c = lent-clear l n g in let h : ¬ (n < least-slice) = c .1 
 
 pub pins-ok : (l : Layout) (p : Pins) → Gives (pinChecks l p) (plain 0) → (¬ (source p ≡ target p)) × (¬ (TheWire l p (TooManyRuns p)))
 unfolding Clear
-pins-ok l p g = let c = pins-clear l p g in (c .1 .0, c .1 .1 .1 .1 .0)
+pins-ok l p g = let c = pins-clear l p g in (c .1 .0, c .1 .1 .1 .1 .1 .1 .1 .0)
 
 -- ---- the wire that is told
 
@@ -62,7 +65,7 @@ module _ (l : Layout) (p : Pins) (w : Wired) (h : Wires l p w) (z : w .code ≡ 
   spelled = h .wire z .2
 
   pub gives : Gives (pinChecks l p) (plain 0)
-  gives = subst (λ k. Gives (pinChecks l p) (plain k)) z (h .code)
+  gives = of-clear (pinChecks l p) (pins-clear-of l p (saidOf w) z (h .said))
 
   pub corners-two : 2 ≤ w .corners
   corners-two = omega (arith, spelled .corners-are, two-corners _ (source p) (target p) v (answered .legal) (pins-ok l p gives .0))
@@ -130,16 +133,16 @@ module _ (b : Board) (wf : WellFormed b) (p : Pins) (s : List ℕ) where
 
   -- ---- an ask
 
-  pub ask-lent : (k : ℕ) → ¬ (k ≡ 0) → Gives (lentChecks (layoutOf b) (length s)) (plain k) → Replies (layoutOf b) (Ask p) s s (refusing k b)
-  ask-lent k n g = refused b wf (Ask p) s k (omega arith) (unfold checks in gives-first (lentChecks (layoutOf b) (length s)) (pinChecks (layoutOf b) p) (plain k) n g)
+  pub ask-lent : (k : ℕ) → ¬ (k ≡ 0) → Gives (lentChecks (layoutOf b) (length s)) (plain k) → Replies (layoutOf b) (Ask p) s s (refusing (plain k) b)
+  ask-lent k n g = refused b wf (Ask p) s (plain k) (omega arith) (unfold checks in gives-first (lentChecks (layoutOf b) (length s)) (pinChecks (layoutOf b) p) (plain k) n g)
 
-  ask-gives : (k : ℕ) → Gives (lentChecks (layoutOf b) (length s)) (plain 0) → Gives (pinChecks (layoutOf b) p) (plain k) → Gives (checks (layoutOf b) (Ask p) (length s)) (plain k)
+  ask-gives : (v : Verdict) → Gives (lentChecks (layoutOf b) (length s)) (plain 0) → Gives (pinChecks (layoutOf b) p) v → Gives (checks (layoutOf b) (Ask p) (length s)) v
   unfolding checks
-  ask-gives k g h = gives-then (lentChecks (layoutOf b) (length s)) (pinChecks (layoutOf b) p) (plain k) (lent-clear (layoutOf b) (length s) g) h
+  ask-gives v g h = gives-then (lentChecks (layoutOf b) (length s)) (pinChecks (layoutOf b) p) v (lent-clear (layoutOf b) (length s) g) h
 
   pub ask-refused : (w : Wired) → Gives (lentChecks (layoutOf b) (length s)) (plain 0) → Wires (layoutOf b) p w → ¬ (w .code ≡ 0)
-      → Replies (layoutOf b) (Ask p) s s (refusing (w .code) b)
-  ask-refused w g h n = refused b wf (Ask p) s (w .code) (omega arith) (ask-gives (w .code) g (h .code))
+      → Replies (layoutOf b) (Ask p) s s (refusing (saidOf w) b)
+  ask-refused w g h n = refused b wf (Ask p) s (saidOf w) (omega arith) (ask-gives (saidOf w) g (h .said))
 
   tells : (w : Wired) (h : Wires (layoutOf b) p w) (z : w .code ≡ 0) (s′ : List ℕ) (m : Layout) (c : Board) → c ≡ boardOf m
       → s′ ≡ written (take (w .corners) (nodes (w .xs) (w .ys))) s
@@ -157,7 +160,7 @@ module _ (b : Board) (wf : WellFormed b) (p : Pins) (s : List ℕ) where
       → s′ ≡ written (take (w .corners) (nodes (w .xs) (w .ys))) s → Replies (layoutOf b) rec s s′ r
   unfolding Does
   ask-told w s′ rec r e e′ g h z f =
-      subst₂ (λ rec r. Replies (layoutOf b) rec s s′ r) (sym e) (sym e′) (accepted b wf (Ask p) s s′ (told p (h .wire z .0) (layoutOf b)) (wiredReply b w) refl (ask-gives 0 g (gives (layoutOf b) p w h z))
+      subst₂ (λ rec r. Replies (layoutOf b) rec s s′ r) (sym e) (sym e′) (accepted b wf (Ask p) s s′ (told p (h .wire z .0) (layoutOf b)) (wiredReply b w) refl (ask-gives (plain 0) g (gives (layoutOf b) p w h z))
       (h .wire z .0, h .wire z .1, refl) (tells w h z s′ (layoutOf b) b (well-formed b wf .same) f))
 
   -- ---- a lay
@@ -170,27 +173,27 @@ module _ (b : Board) (wf : WellFormed b) (p : Pins) (s : List ℕ) where
     rest : List Check
     rest = (4 if Used (layoutOf b .items) (i .number)) ∷ pinChecks (layoutOf b) p ++ room ∷ []
 
-    pub lay-lent : (k : ℕ) → ¬ (k ≡ 0) → Gives (lentChecks (layoutOf b) (length s)) (plain k) → Replies (layoutOf b) (Lay i p) s s (refusing k b)
+    pub lay-lent : (k : ℕ) → ¬ (k ≡ 0) → Gives (lentChecks (layoutOf b) (length s)) (plain k) → Replies (layoutOf b) (Lay i p) s s (refusing (plain k) b)
     unfolding checks room rest
     lay-lent k n g =
-        refused b wf (Lay i p) s k (omega arith)
+        refused b wf (Lay i p) s (plain k) (omega arith)
         (gives-first (lentChecks (layoutOf b) (length s)) rest (plain k) n g)
 
-    pub lay-used : Gives (lentChecks (layoutOf b) (length s)) (plain 0) → Used (layoutOf b .items) (i .number) → Replies (layoutOf b) (Lay i p) s s (refusing 4 b)
+    pub lay-used : Gives (lentChecks (layoutOf b) (length s)) (plain 0) → Used (layoutOf b .items) (i .number) → Replies (layoutOf b) (Lay i p) s s (refusing (plain 4) b)
     unfolding checks Gives room rest
     lay-used g u =
-        refused b wf (Lay i p) s 4 (omega arith)
+        refused b wf (Lay i p) s (plain 4) (omega arith)
         (gives-then (lentChecks (layoutOf b) (length s)) rest (plain 4) (lent-clear (layoutOf b) (length s) g) (inl (u, refl)))
 
-    lay-gives : (k : ℕ) → Gives (lentChecks (layoutOf b) (length s)) (plain 0) → ¬ (Used (layoutOf b .items) (i .number))
-        → Gives (pinChecks (layoutOf b) p ++ room ∷ []) (plain k) → Gives (checks (layoutOf b) (Lay i p) (length s)) (plain k)
+    lay-gives : (v : Verdict) → Gives (lentChecks (layoutOf b) (length s)) (plain 0) → ¬ (Used (layoutOf b .items) (i .number))
+        → Gives (pinChecks (layoutOf b) p ++ room ∷ []) v → Gives (checks (layoutOf b) (Lay i p) (length s)) v
     unfolding checks Gives room rest
-    lay-gives k g u h = gives-then (lentChecks (layoutOf b) (length s)) rest (plain k) (lent-clear (layoutOf b) (length s) g) (inr (u, h))
+    lay-gives v g u h = gives-then (lentChecks (layoutOf b) (length s)) rest v (lent-clear (layoutOf b) (length s) g) (inr (u, h))
 
     pub lay-refused : (w : Wired) → Gives (lentChecks (layoutOf b) (length s)) (plain 0) → ¬ (Used (layoutOf b .items) (i .number))
-        → Wires (layoutOf b) p w → ¬ (w .code ≡ 0) → Replies (layoutOf b) (Lay i p) s s (refusing (w .code) b)
+        → Wires (layoutOf b) p w → ¬ (w .code ≡ 0) → Replies (layoutOf b) (Lay i p) s s (refusing (saidOf w) b)
     lay-refused w g u h n =
-        refused b wf (Lay i p) s (w .code) (omega arith) (lay-gives (w .code) g u (gives-first (pinChecks (layoutOf b) p) (room ∷ []) (plain (w .code)) n (h .code)))
+        refused b wf (Lay i p) s (saidOf w) (omega arith) (lay-gives (saidOf w) g u (gives-first (pinChecks (layoutOf b) p) (room ∷ []) (saidOf w) n (h .said)))
 
     pub lay-asks : (w : Wired) → Gives (lentChecks (layoutOf b) (length s)) (plain 0) → Wires (layoutOf b) p w → w .code ≡ 0 → Laying b i w s
     lay-asks w g h z = record {
@@ -209,12 +212,12 @@ module _ (b : Board) (wf : WellFormed b) (p : Pins) (s : List ℕ) where
     unfolding Lays Gives Does room
     laid w s′ r g u h z (inl (many, e, f)) =
         subst₂ (λ s′ r. Replies (layoutOf b) (Lay i p) s s′ r) (sym f) (sym e)
-        (refused b wf (Lay i p) s 14 (omega arith) (lay-gives 14 g u (gives-then (pinChecks (layoutOf b) p) (room ∷ []) (plain 14) (pins-clear (layoutOf b) p (gives (layoutOf b) p w h z))
+        (refused b wf (Lay i p) s (plain 14) (omega arith) (lay-gives (plain 14) g u (gives-then (pinChecks (layoutOf b) p) (room ∷ []) (plain 14) (pins-clear (layoutOf b) p (gives (layoutOf b) p w h z))
         (inl ((h .wire z .0, h .wire z .1, omega (arith, many, blocks-are (layoutOf b) p w h z (i .number))), refl)))))
     laid w s′ r g u h z (inr (few, e, f)) =
         subst (Replies (layoutOf b) (Lay i p) s s′) (sym e)
         (accepted b wf (Lay i p) s s′ (told p (h .wire z .0) (addTo (layoutOf b) (wire (i .number) (way p (h .wire z .0))))) _ refl
-        (lay-gives 0 g u (gives-then (pinChecks (layoutOf b) p) (room ∷ []) (plain 0) (pins-clear (layoutOf b) p (gives (layoutOf b) p w h z))
+        (lay-gives (plain 0) g u (gives-then (pinChecks (layoutOf b) p) (room ∷ []) (plain 0) (pins-clear (layoutOf b) p (gives (layoutOf b) p w h z))
         (inr (λ t. omega (arith, few, blocks-are (layoutOf b) p w h z (i .number), one (layoutOf b) p w h z _ t), refl))))
         (h .wire z .0, h .wire z .1, refl)
         (tells w h z s′ (addTo (layoutOf b) (wire (i .number) (way p (h .wire z .0)))) _

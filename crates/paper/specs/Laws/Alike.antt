@@ -29,10 +29,10 @@ same-items : (l₁ l₂ : Layout) → l₁ .size ≡ l₂ .size → l₁ .items 
 unfolding boardOf
 same-items l₁ l₂ es ei = record { size = es; count = ap length ei; items = ap (λ ts. boardOf (record { size = l₁ .size; items = ts; kept = [] }) .items) ei }
 
-tells-alike : (n d : ℕ) (ps : List Node) (b₁ b₂ : Board) (s s₁ s₂ : List ℕ) (r₁ r₂ : Reply) → r₁ .code ≡ r₂ .code → SameItems b₁ b₂
+tells-alike : (n d : ℕ) (ps : List Node) (b₁ b₂ : Board) (s s₁ s₂ : List ℕ) (r₁ r₂ : Reply) → verdict r₁ ≡ verdict r₂ → SameItems b₁ b₂
     → Tells n d ps b₁ s s₁ r₁ → Tells n d ps b₂ s s₂ r₂ → Alike s₁ s₂ r₁ r₂
 tells-alike n d ps b₁ b₂ s s₁ s₂ r₁ r₂ c e p q = record {
-  code = c;
+  said = c;
   long = p .length-is ∙ sym (q .length-is);
   away = p .detour-is ∙ sym (q .detour-is);
   turned = p .corners-are ∙ sym (q .corners-are);
@@ -82,21 +82,22 @@ module _ (z : Size) (ts : List Thing) (k₁ k₂ : List Turn) where
       → Replies (keeping z ts k₁) rec s s₁ r₁ → Replies (keeping z ts k₂) rec s s₂ r₂ → Alike s₁ s₂ r₁ r₂
   alike-replies rec s s₁ s₂ r₁ r₂ u p q = go (r₁ .code) refl
     where
+      v : verdict r₁ ≡ verdict r₂
+      v = one-verdict (checks (keeping z ts k₂) rec (length s)) (verdict r₁) (verdict r₂) (rw (same-checks rec (length s) u) at (p .code)) (q .code)
+
       c : r₁ .code ≡ r₂ .code
-      c =
-          ap (λ v. v .code)
-          (one-verdict (checks (keeping z ts k₂) rec (length s)) (verdict r₁) (verdict r₂) (rw (same-checks rec (length s) u) at (p .code)) (q .code))
+      c = ap (λ v. v .code) v
 
       go : (k : ℕ) → r₁ .code ≡ k → Alike s₁ s₂ r₁ r₂
       go zero e =
           let f = p .accepted e in
           let g = q .accepted (sym c ∙ e) in
           let o : plain (f .0) ≡ plain (g .0) = same-outcome rec (f .0) (g .0) u (f .1) (g .1) in
-          tells-alike (g .0 .long) (g .0 .away) (g .0 .turned) (boardOf (f .0 .layout)) (boardOf (g .0 .layout)) s s₁ s₂ r₁ r₂ c
+          tells-alike (g .0 .long) (g .0 .away) (g .0 .turned) (boardOf (f .0 .layout)) (boardOf (g .0 .layout)) s s₁ s₂ r₁ r₂ v
           (same-items (f .0 .layout) (g .0 .layout) (ap (λ o. o .layout .size) o) (ap (λ o. o .layout .items) o))
           (subst (λ o. Tells (o .long) (o .away) (o .turned) (boardOf (f .0 .layout)) s s₁ r₁) o (f .2)) (g .2)
       go (suc k) e =
-          tells-alike 0 0 [] (boardOf (left (keeping z ts k₁))) (boardOf (left (keeping z ts k₂))) s s₁ s₂ r₁ r₂ c
+          tells-alike 0 0 [] (boardOf (left (keeping z ts k₁))) (boardOf (left (keeping z ts k₂))) s s₁ s₂ r₁ r₂ v
           (same-items (keeping z ts k₁) (keeping z ts k₂) refl refl) (p .refused (λ h. omega arith)) (q .refused (λ h. omega (arith, c)))
 
 -- ---- any two well-formed boards

@@ -1,5 +1,5 @@
 -- Lists of checks: what they give is determined, and what is known where none of them applies.
--- By cases of a check alone are the laws of the first part.
+-- Only the laws of the first part go by the cases of a check.
 -- Assumes nothing.
 use Prim.Native.Nat.{ℕ, _≤_}
 use native.Mathlib.Omega.{arith}
@@ -9,25 +9,31 @@ use mathlib.Core.Logic.{_⊎_, inl, inr, ⊎-elim}
 use mathlib.Core.List.{List, [], _∷_, _++_}
 use lib.Dec.{eqb}
 use Rattle.paper.specs.declared.Verdict.{Verdict}
-use Rattle.paper.specs.Answer.{plain, Check, _about_if_, _unless_, Applies, Idle, Gives}
+use Rattle.paper.specs.Answer.{named, plain, Check, _about_if_, _unless_, _about_naming_, Applies, Idle, Gives}
 
 -- ---- one check
 
 abbrev pub numberOf : Check → ℕ
 numberOf (n about i if p) = n
 numberOf (n unless p) = n
+numberOf (n about i naming P) = n
 
 one-applies : (c : Check) (u v : Verdict) → Applies c u → Applies c v → u ≡ v
 one-applies (n about i if p) u v a b = a .1 ∙ sym (b .1)
 one-applies (n unless p) u v a b = a .1 ∙ sym (b .1)
+one-applies (n about i naming P) u v a b =
+    let e : a .0 ≡ b .0 = omega (arith, a .2 (b .0) (b .1), b .2 (a .0) (a .1)) in
+    a .3 ∙ ap (named n i) e ∙ sym (b .3)
 
 not-idle : (c : Check) (v : Verdict) → Applies c v → ¬ (Idle c)
 not-idle (n about i if p) v a h = h (a .0)
 not-idle (n unless p) v a h = a .0 h
+not-idle (n about i naming P) v a h = h (a .0) (a .1)
 
 number-is : (c : Check) (v : Verdict) → Applies c v → v .code ≡ numberOf c
 number-is (n about i if p) v a = ap (λ v. v .code) (a .1)
 number-is (n unless p) v a = ap (λ v. v .code) (a .1)
+number-is (n about i naming P) v a = ap (λ v. v .code) (a .3)
 
 -- ---- one verdict
 
@@ -61,7 +67,7 @@ unfolding Gives Clear
 of-clear [] k = refl
 of-clear (c ∷ cs) k = inr (k .0, of-clear cs (k .1))
 
--- what is known of the check that gives k
+-- what is known of the first check that gives k
 unfoldable pub Spared : List Check → ℕ → Type 0
 Spared [] k = Unit {0}
 Spared (c ∷ cs) k = cond (eqb k (numberOf c)) (Idle c) (Spared cs k)

@@ -1,28 +1,28 @@
 -- A wire drawn by hand: what is said of it is determined, and it is accepted just if it is a legal wire. The answered wire exceeds by nothing.
 -- Assumes nothing.
-use Prim.Native.Nat.{ℕ, zero, suc, _+_, _≤_, _<_}
+use Prim.Native.Nat.{ℕ, zero, suc, _+_, _≤_}
 use native.Mathlib.Omega.{arith}
 use mathlib.Core.Path.{_≡_, refl, sym, ap, subst, _∙_}
 use mathlib.Core.Bool.{Bool, true, false}
 use mathlib.Core.Logic.{_⊎_, inl, inr, ⊎-elim}
-use mathlib.Core.List.{List, [], _∷_, _++_}
+use mathlib.Core.List.{List, [], _∷_}
 use lib.ListN.{length}
 use Rattle.paper.specs.declared.Board.{Board}
 use Rattle.paper.specs.declared.Judged.{Judged}
 use Rattle.paper.specs.Limits.{most-runs}
-use Rattle.paper.specs.Grid.{Node, Dir, step, level, upright, Grid, Free, Area, Block, Hits, Any, All, Blocked}
+use Rattle.paper.specs.Grid.{Node, Dir, step, level, upright, Grid, Area, Block, Hits, Any, All, Blocked}
 use Rattle.paper.specs.Wire.{Legal, Answered, ToGo, turns, corners, between, runs}
 use Rattle.paper.specs.Layout.{Thing, keep-out, wire, Sort, keep-outs, wires, blocksOf, blocksTo, gridOf, OnBoard, Turning, lastOf, EndsDiffer, Layout, Laid}
-use Rattle.paper.specs.Padding.{WellFormed}
+use Rattle.paper.specs.Padding.{Holds, WellFormed}
 use Rattle.paper.specs.Answer.{plain, Gives, Bars, flat}
-use Rattle.paper.specs.Drawn.{drawn, shapeChecks, runCheck, runChecks, cornerChecks, drawnChecks, longOf, Exceeds, judgement, JudgedOn, Judges}
+use Rattle.paper.specs.Drawn.{drawn, shapeChecks, runChecks, cornerChecks, drawnChecks, longOf, Exceeds, judgement, JudgedOn, Judges}
 use Rattle.paper.specs.Laws.Says.{Says, says-and}
 use Rattle.paper.specs.Laws.Tests.{on-board-says}
 use Rattle.paper.specs.Laws.Lists.{any-split, any-left, any-right}
 use Rattle.paper.specs.Laws.Checks.{one-verdict, Coded, coded-join, Clear, clear-of, of-clear, clear-join, clear-split}
 use Rattle.paper.specs.Laws.Back.{one-layout, length-runs}
-use Rattle.paper.specs.Laws.Steps.{Inside, free-inside}
-use Rattle.paper.specs.Laws.Traced.{on-or-not, turns-on, turns-at, open-boxes, passed-all, answered-fits}
+use Rattle.paper.specs.Laws.Steps.{free-inside}
+use Rattle.paper.specs.Laws.Traced.{open-boxes, passed-all, answered-fits}
 use Rattle.paper.specs.Laws.Told.{answered-to-go}
 use Rattle.paper.specs.Laws.Bent.{straight-or, shape-turning, turning-shape, shape-coded, first-straight}
 use Rattle.paper.specs.Laws.Walked.{word, long-corners, last-turns}
@@ -61,6 +61,12 @@ one-judged b ns r q (inl f) (inr g) = absurd (f .0 (g .0, g .1))
 one-judged b ns r q (inr f) (inl g) = absurd (g .0 (f .0, f .1))
 one-judged b ns r q (inr f) (inr g) =
     judged-same (g .0) ns r q (subst (λ l. JudgedOn l ns r) (one-layout b (f .0) (g .0) (f .1) (g .1)) (f .2)) (g .2)
+
+-- what is said on a board is what is said on the layout that it holds
+pub judges-on : (b : Board) (l : Layout) (ns : List ℕ) (r : Judged) → Holds b l → Judges b ns r → JudgedOn l ns r
+unfolding Judges WellFormed
+judges-on b l ns r h (inl f) = absurd (f .0 (l, h))
+judges-on b l ns r h (inr f) = subst (λ l. JudgedOn l ns r) (one-layout b (f .0) l (f .1) h) (f .2)
 
 -- ---- what stands in a run's way
 

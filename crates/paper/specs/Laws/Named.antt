@@ -11,9 +11,9 @@ use Rattle.paper.specs.declared.Judged.{Judged}
 use Rattle.paper.specs.declared.Verdict.{Verdict}
 use Rattle.paper.specs.Grid.{Node, Area}
 use Rattle.paper.specs.Wire.{between, runs}
-use Rattle.paper.specs.Layout.{OnBoard, EndsDiffer, Layout}
-use Rattle.paper.specs.Answer.{placed, plain, BeforeBounds, Gives}
-use Rattle.paper.specs.Drawn.{drawn, CountFits, Bent, Unturned, InKeepOut, NearWire, shapeChecks, runCheck, runChecks, drawnChecks, judgement, JudgedOn}
+use Rattle.paper.specs.Layout.{OnBoard, Layout}
+use Rattle.paper.specs.Answer.{placed, plain, Gives}
+use Rattle.paper.specs.Drawn.{drawn, Bent, Unturned, InKeepOut, NearWire, shapeChecks, runCheck, runChecks, drawnChecks, judgement, JudgedOn}
 use Rattle.paper.specs.Laws.Checks.{Clear, gives-either}
 
 -- ---- a bad shape

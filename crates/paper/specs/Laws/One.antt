@@ -53,16 +53,16 @@ one-outcome l Undo o o′ z p q =
 
 -- ---- one reply
 
-tells-same : (n d : ℕ) (ps : List Node) (b : Board) (s s₁ s₂ : List ℕ) (r₁ r₂ : Reply) → r₁ .code ≡ r₂ .code
+tells-same : (n d : ℕ) (ps : List Node) (b : Board) (s s₁ s₂ : List ℕ) (r₁ r₂ : Reply) → verdict r₁ ≡ verdict r₂
     → Tells n d ps b s s₁ r₁ → Tells n d ps b s s₂ r₂ → (r₁ ≡ r₂) × (s₁ ≡ s₂)
 tells-same n d ps b s s₁ s₂ r₁ r₂ c p q =
     let long : r₁ .length ≡ r₂ .length = p .length-is ∙ sym (q .length-is) in
     let away : r₁ .detour ≡ r₂ .detour = p .detour-is ∙ sym (q .detour-is) in
     let turned : r₁ .corners ≡ r₂ .corners = p .corners-are ∙ sym (q .corners-are) in
     let left : r₁ .board ≡ r₂ .board = p .board-is ∙ sym (q .board-is) in
-    (λ i. record { code = c i; length = long i; detour = away i; corners = turned i; board = left i }, p .slice-is ∙ sym (q .slice-is))
+    (λ i. record { code = c i .code; pin = c i .place; id = c i .id; length = long i; detour = away i; corners = turned i; board = left i }, p .slice-is ∙ sym (q .slice-is))
 
-accepted-same : (l : Layout) (rec : Record) (s s₁ s₂ : List ℕ) (r₁ r₂ : Reply) → Sound l → r₁ .code ≡ r₂ .code
+accepted-same : (l : Layout) (rec : Record) (s s₁ s₂ : List ℕ) (r₁ r₂ : Reply) → Sound l → verdict r₁ ≡ verdict r₂
     → Accepted l rec s s₁ r₁ → Accepted l rec s s₂ r₂ → (r₁ ≡ r₂) × (s₁ ≡ s₂)
 accepted-same l rec s s₁ s₂ r₁ r₂ z c p q =
     let o : Outcome = q .0 in
@@ -73,12 +73,15 @@ replies-same : (l : Layout) (rec : Record) (s s₁ s₂ : List ℕ) (r₁ r₂ :
     → Replies l rec s s₁ r₁ → Replies l rec s s₂ r₂ → (r₁ ≡ r₂) × (s₁ ≡ s₂)
 replies-same l rec s s₁ s₂ r₁ r₂ z p q = go (r₁ .code) refl
   where
+    v : verdict r₁ ≡ verdict r₂
+    v = one-verdict (checks l rec (length s)) (verdict r₁) (verdict r₂) (p .code) (q .code)
+
     c : r₁ .code ≡ r₂ .code
-    c = ap (λ v. v .code) (one-verdict (checks l rec (length s)) (verdict r₁) (verdict r₂) (p .code) (q .code))
+    c = ap (λ v. v .code) v
 
     go : (k : ℕ) → r₁ .code ≡ k → (r₁ ≡ r₂) × (s₁ ≡ s₂)
-    go zero e = accepted-same l rec s s₁ s₂ r₁ r₂ z c (p .accepted e) (q .accepted (sym c ∙ e))
-    go (suc k) e = tells-same 0 0 [] (boardOf (left l)) s s₁ s₂ r₁ r₂ c (p .refused (λ h. omega arith)) (q .refused (λ h. omega (arith, c)))
+    go zero e = accepted-same l rec s s₁ s₂ r₁ r₂ z v (p .accepted e) (q .accepted (sym c ∙ e))
+    go (suc k) e = tells-same 0 0 [] (boardOf (left l)) s s₁ s₂ r₁ r₂ v (p .refused (λ h. omega arith)) (q .refused (λ h. omega (arith, c)))
 
 -- a reply and what is left in the slice are determined, for every board, all bytes and every slice
 pub one-reply : (b : Board) (bytes s s₁ s₂ : List ℕ) (r₁ r₂ : Reply) → Fed b bytes s s₁ r₁ → Fed b bytes s s₂ r₂ → (r₁ ≡ r₂) × (s₁ ≡ s₂)

@@ -4,7 +4,7 @@ use Prim.Native.Nat.{ℕ, _≤_}
 use native.Mathlib.Omega.{arith}
 use native.Mathlib.Nat.{add-zero}
 use mathlib.Core.Path.{_≡_, refl, ap}
-use mathlib.Core.Bool.{Bool, false, not, _&&_, _||_, cond}
+use mathlib.Core.Bool.{Bool, true, false, not, _&&_, _||_, cond}
 use mathlib.Core.Logic.{inl, inr}
 use mathlib.Core.List.{List}
 use lib.ListN.{length}
@@ -12,18 +12,21 @@ use lib.Dec.{T, ltb, eqb}
 use Rattle.paper.specs.declared.Pins.{Pins}
 use Rattle.paper.specs.declared.Record.the-variants.{Ask}
 use Rattle.paper.specs.Limits.{most-runs, least-slice}
-use Rattle.paper.specs.Grid.{Node, Dir, Block, All, node}
+use Rattle.paper.specs.Grid.{Node, Dir, Block, All, Pairs, node}
 use Rattle.paper.specs.Wire.{turns, corners, runs, gap, manhattan, detour}
-use Rattle.paper.specs.Layout.{wires, blocksTo, Sound}
+use Rattle.paper.specs.Layout.{Thing, Sort, keep-outs, wires, sortOf, areas, blocksOf, blocksTo, Below, Sound}
 use Rattle.paper.specs.Padding.{boardOf}
 use Rattle.paper.specs.Reading.{fieldsOf, Plain, Reads}
-use Rattle.paper.specs.Answer.{plain, Gives, source, target, way, TooManyRuns, checks, Outcome, quiet, told, Does, written, Tells, Fed}
+use Rattle.paper.specs.declared.Verdict.{Verdict}
+use Rattle.paper.specs.Answer.{named, plain, Gives, Bars, source, target, way, TooManyRuns, checks, Outcome, quiet, told, Does, written, Tells, Fed}
 use Rattle.paper.specs.TableP.{Row, layoutIn, asking, replyIn, Stands, tableP}
 use Rattle.paper.specs.Laws.Lists.{all-imp}
-use Rattle.paper.specs.Laws.Says.{Says, says-as, says-self, says-never, says-and, says-and₃, says-and₄, says-or, says-not, says-if, says-le, says-eq, says-all, listb, says-list}
+use Rattle.paper.specs.Laws.Says.{Says, says-as, says-self, says-always, says-never, says-and, says-and₃, says-and₄, says-not, says-if, says-le, says-eq, says-all, listb, says-list}
 use Rattle.paper.specs.Laws.Tests.{nodeb, node-says, blockedb, blocked-says, onBoardb, on-board-says, soundb, sound-says}
 use Rattle.paper.specs.Laws.Certificate.{Table, look, routeb, none-by-table, by-table}
 use Rattle.paper.specs.Laws.Distances.{distances, steps}
+use Rattle.paper.specs.Laws.One.{sound-rising}
+use Rattle.paper.specs.Laws.Smallest.{namedb, gives-naming}
 use Rattle.paper.specs.Laws.Feeds.{gives-none, gives-if, gives-unless, the-wire-says}
 
 abbrev blocksIn : Row → List Block
@@ -69,6 +72,29 @@ tells r o s c = record {
   slice-is = ap (λ ps. written ps s) (c .2);
 }
 
+sortb : Sort → Sort → Bool
+sortb keep-outs keep-outs = true
+sortb keep-outs wires = false
+sortb wires keep-outs = false
+sortb wires wires = true
+
+sort-says : (s z : Sort) → Says (sortb s z) (s ≡ z)
+unfolding sortb
+sort-says keep-outs keep-outs = says-always refl
+sort-says keep-outs wires = says-never (λ e. let z : _≡_ {A = ℕ} 0 1 = cc in omega arith)
+sort-says wires keep-outs = says-never (λ e. let z : _≡_ {A = ℕ} 0 1 = cc in omega arith)
+sort-says wires wires = says-always refl
+
+unfoldable verdictb : Verdict → Verdict → Bool
+verdictb v w = eqb (v .code) (w .code) && eqb (v .place) (w .place) && eqb (v .id) (w .id)
+
+verdict-says : (v w : Verdict) → Says (verdictb v w) (v ≡ w)
+unfolding verdictb
+verdict-says v w =
+    says-as (λ h i. record { code = h .0 i; place = h .1 i; id = h .2 i })
+    (λ e. (ap (λ v. v .code) e, ap (λ v. v .place) e, ap (λ v. v .id) e))
+    (says-and₃ (says-eq _ _) (says-eq _ _) (says-eq _ _))
+
 -- ---- the test of a row, by a table of distances and a wire: whatever these are, a row that passes it stands
 
 module _ (r : Row) (tab : Table) (v : List Dir) where
@@ -84,25 +110,41 @@ module _ (r : Row) (tab : Table) (v : List Dir) where
   abbrev routedb : Bool
   routedb = routeb 10 10 (blocksIn r) tab here there v
 
-  -- the codes of an ask in their order, after 2 and 16
-  unfoldable codeIn : ℕ
-  codeIn =
-      cond (onBoardb (layoutIn r .size) here && onBoardb (layoutIn r .size) there)
-      (cond (nodeb here there) 10
-      (cond (blockedb (blocksIn r) (node here) || blockedb (blocksIn r) (node there)) 11
-      (cond (eqb (look tab here) 0) 12
-      (cond (ltb most-runs (length (runs (way (r .pins) v)))) 13 0)))) 9
+  -- the item of the sort blocks the node
+  unfoldable barsb : Sort → Node → Thing → Bool
+  unfolding blockedb blocksOf areas runs
+  barsb of p t = sortb (sortOf t) of && blockedb (blocksOf (r .clearance) wires t) (node p)
 
-  gives : (n : ℕ) → least-slice ≤ n → T routedb → Gives (checks (layoutIn r) (Ask (r .pins)) n) (plain codeIn)
-  unfolding checks codeIn
-  gives n fits routed =
+  bars-says : (of : Sort) (p : Node) (t : Thing) → Says (barsb of p t) (Bars (layoutIn r) wires of (node p) t)
+  unfolding barsb Bars
+  bars-says of p t = says-and (sort-says (sortOf t) of) (blocked-says _ _)
+
+  -- the codes of an ask in their order, after 2 and 16
+  unfoldable verdictIn : Verdict
+  unfolding namedb barsb
+  verdictIn =
+      cond (onBoardb (layoutIn r .size) here && onBoardb (layoutIn r .size) there)
+      (cond (nodeb here there) (plain 10)
+      (namedb (barsb keep-outs here) (named 11 1) (r .items)
+      (namedb (barsb wires here) (named 18 1) (r .items)
+      (namedb (barsb keep-outs there) (named 11 2) (r .items)
+      (namedb (barsb wires there) (named 18 2) (r .items)
+      (cond (eqb (look tab here) 0) (plain 12)
+      (cond (ltb most-runs (length (runs (way (r .pins) v)))) (plain 13) (plain 0)))))))) (plain 9)
+
+  gives : (n : ℕ) → least-slice ≤ n → Pairs Below (r .items) → T routedb → Gives (checks (layoutIn r) (Ask (r .pins)) n) verdictIn
+  unfolding checks verdictIn
+  gives n fits rising routed =
       let none = none-by-table 10 10 (blocksIn r) tab here there v routed in
       let wire = by-table 10 10 (blocksIn r) tab here there v routed in
       gives-if {b = false} 2 _ _ (says-never (λ z. omega arith)) λ bounds.
       gives-if {b = false} 16 _ _ (says-never (λ z. omega arith)) λ room.
       gives-unless 9 _ _ (says-and (on-board-says _ _) (on-board-says _ _)) λ on.
       gives-if 10 _ _ (node-says _ _) λ two.
-      gives-if 11 _ _ (says-or (blocked-says _ _) (blocked-says _ _)) λ clear.
+      gives-naming _ _ (bars-says keep-outs here) (named 11 1) _ 11 1 _ _ rising (λ j. refl) λ a.
+      gives-naming _ _ (bars-says wires here) (named 18 1) _ 18 1 _ _ rising (λ j. refl) λ b.
+      gives-naming _ _ (bars-says keep-outs there) (named 11 2) _ 11 2 _ _ rising (λ j. refl) λ c.
+      gives-naming _ _ (bars-says wires there) (named 18 2) _ 18 2 _ _ rising (λ j. refl) λ d.
       gives-if 12 _ _ (says-as (none .0) (none .1) (says-eq _ _)) λ some.
       gives-if 13 _ _ (the-wire-says (layoutIn r) (r .pins) (TooManyRuns (r .pins)) v (wire (λ z. some (none .0 z))) (says-le _ _)) λ few.
       gives-none
@@ -110,23 +152,23 @@ module _ (r : Row) (tab : Table) (v : List Dir) where
   record Passed : Type 0 where
     sound : Sound (layoutIn r)
     routed : T routedb
-    code : r .code ≡ codeIn
-    accepted : r .code ≡ 0 → (¬ (look tab here ≡ 0)) × Claims r outcome
-    refused : ¬ (r .code ≡ 0) → Claims r (quiet (layoutIn r))
+    said : r .said ≡ verdictIn
+    accepted : r .said .code ≡ 0 → (¬ (look tab here ≡ 0)) × Claims r outcome
+    refused : ¬ (r .said .code ≡ 0) → Claims r (quiet (layoutIn r))
 
   unfoldable rowb : Bool
-  unfolding soundb routeb codeIn claimsb corners turns detour manhattan gap
+  unfolding soundb routeb verdictIn verdictb claimsb corners turns detour manhattan gap
   rowb =
-      soundb (layoutIn r) && routedb && eqb (r .code) codeIn
-      && ((not (eqb (r .code) 0) || (not (eqb (look tab here) 0) && claimsb r outcome))
-      && (not (not (eqb (r .code) 0)) || claimsb r (quiet (layoutIn r))))
+      soundb (layoutIn r) && routedb && verdictb (r .said) verdictIn
+      && ((not (eqb (r .said .code) 0) || (not (eqb (look tab here) 0) && claimsb r outcome))
+      && (not (not (eqb (r .said .code) 0)) || claimsb r (quiet (layoutIn r))))
 
   row-says : Says rowb Passed
   unfolding rowb
   row-says =
-      says-as (λ h. record { sound = h .0; routed = h .1; code = h .2; accepted = h .3 .0; refused = h .3 .1 })
-      (λ p. (p .sound, p .routed, p .code, (p .accepted, p .refused)))
-      (says-and₄ (sound-says (layoutIn r)) (says-self routedb) (says-eq _ _)
+      says-as (λ h. record { sound = h .0; routed = h .1; said = h .2; accepted = h .3 .0; refused = h .3 .1 })
+      (λ p. (p .sound, p .routed, p .said, (p .accepted, p .refused)))
+      (says-and₄ (sound-says (layoutIn r)) (says-self routedb) (verdict-says _ _)
       (says-and (says-if (says-eq _ _) (says-and (says-not (says-eq _ _)) (claims-says r outcome)))
       (says-if (says-not (says-eq _ _)) (claims-says r (quiet (layoutIn r))))))
 
@@ -139,7 +181,7 @@ module _ (r : Row) (tab : Table) (v : List Dir) where
         record { sound = p .sound; same = refl },
         reads (r .pins),
         record {
-          code = rw (p .code) (gives (length s) fits (p .routed));
+          code = rw (p .said) (gives (length s) fits (sound-rising (layoutIn r) (p .sound)) (p .routed));
           refused = λ n. tells r (quiet (layoutIn r)) s (p .refused n);
           accepted = λ z. (
             outcome,
@@ -159,7 +201,7 @@ abbrev wireIn : Row → List Dir
 wireIn r = steps (r .turned)
 
 pub table-p : All Stands tableP
-unfolding rowb distances steps blocksTo
+unfolding rowb distances steps blocksTo sortb
 table-p =
     all-imp (λ r. Passed r (tableIn r) (wireIn r)) Stands (λ r. stands r (tableIn r) (wireIn r)) tableP
     (says-all (λ r. row-says r (tableIn r) (wireIn r)) tableP .fact tt)

@@ -86,7 +86,7 @@ told-copper l rec p s s′ r (lay {i = i}) z f e =
 pub fed-copper : (b : Board) (bytes s s′ : List ℕ) (r : Reply) (rec : Record) (p : Pins) → Fed b bytes s s′ r → r .code ≡ 0 → Reads bytes rec
     → Routes rec p → (l : Layout) × Holds b l × (w : List Dir) × Copper l p s s′ r w
 unfolding Fed
-fed-copper b bytes s s′ r rec p (inl f) e k q = absurd (omega (arith, f .1))
+fed-copper b bytes s s′ r rec p (inl f) e k q = absurd (omega (arith, ap (λ v. v .code) (f .1)))
 fed-copper b bytes s s′ r rec p (inr f) e k q =
     let same : f .1 ≡ rec = one-record bytes (f .1) rec (f .3) k in
     let c = told-copper (f .0) rec p s s′ r q (f .2 .sound) (subst (λ x. Replies (f .0) x s s′ r) same (f .4)) e in

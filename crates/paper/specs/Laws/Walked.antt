@@ -4,12 +4,12 @@ use Prim.Native.Nat.{ℕ, zero, suc, _+_, _-_, _≤_, _<_, min, max}
 use native.Mathlib.Omega.{arith}
 use native.Mathlib.Decide.{decLt}
 use mathlib.Core.Path.{_≡_, refl, sym, ap, subst, _∙_}
-use mathlib.Core.Bool.{Bool, true, false}
-use mathlib.Core.Logic.{_⊎_, inl, inr, ⊎-elim}
+use mathlib.Core.Bool.{true, false}
+use mathlib.Core.Logic.{_⊎_, ⊎-elim}
 use mathlib.Core.List.{List, [], _∷_, _++_}
 use lib.ListN.{length, replicate, length-append, length-replicate}
 use lib.Dec.{eqb}
-use Rattle.paper.specs.Grid.{Node, Dir, E, N, W, S, rank, step, Axis, level, upright, Grid, Edge, Free, Area, Span, Meets, Block, Hits, Any, All, Blocked, node, edge, gridWith}
+use Rattle.paper.specs.Grid.{Node, Dir, E, N, W, S, rank, step, Axis, level, upright, Grid, Edge, Free, Area, Meets, Block, Hits, All, Blocked, node, edge, gridWith}
 use Rattle.paper.specs.Wire.{Legal, turns, corners, between, runs, manhattan, gap}
 use Rattle.paper.specs.Layout.{Along, across, Turning, lastOf}
 use Rattle.paper.specs.Drawn.{longOf}

@@ -1,8 +1,8 @@
 -- A wire fits on a board just if its corners lie on it and nothing is wrong with its shape.
 -- Assumes nothing.
-use Prim.Native.Nat.{ℕ, zero, suc, _+_, _≤_}
+use Prim.Native.Nat.{ℕ, _+_, _≤_}
 use native.Mathlib.Omega.{arith}
-use mathlib.Core.Path.{_≡_, refl, ap, subst, sym, _∙_}
+use mathlib.Core.Path.{_≡_, ap, _∙_}
 use mathlib.Core.Logic.{_⊎_, inl, inr, ⊎-elim}
 use mathlib.Core.List.{List, [], _∷_}
 use lib.Dec.{eqb}
@@ -12,7 +12,7 @@ use Rattle.paper.specs.declared.Item.{Item}
 use Rattle.paper.specs.Limits.{most-corners, most-runs}
 use Rattle.paper.specs.Grid.{Node, level, upright, Area, All}
 use Rattle.paper.specs.Wire.{runs}
-use Rattle.paper.specs.Layout.{OnBoard, Turning, EndsDiffer, WireFits}
+use Rattle.paper.specs.Layout.{OnBoard, Turning, WireFits}
 use Rattle.paper.specs.Answer.{plain, Gives}
 use Rattle.paper.specs.Drawn.{shapeChecks, formChecks}
 use Rattle.paper.specs.Laws.Says.{Says, says-as, says-eq}

@@ -34,8 +34,7 @@ spans p q r e =
     let c : r .y0 ≡ min (p .y) (q .y) = ap (λ a. a .low .y) e in
     let d : r .y1 ≡ max (p .y) (q .y) = ap (λ a. a .high .y) e in
     let x = between-gap (p .x) (q .x) in
-    let y = between-gap (p .y) (q .y) in
-    (
+    let y = between-gap (p .y) (q .y) in (
       subst₂ _≤_ (sym a) (sym b) (x .0),
       subst₂ _≤_ (sym c) (sym d) (y .0),
       ap₂ _+_ (ap₂ _-_ b a ∙ x .1) (ap₂ _-_ d c ∙ y .1),

@@ -7,7 +7,7 @@ use mathlib.Core.List.{List, [], _∷_, _++_, append-assoc}
 use lib.ListN.{length, getD, take}
 use lib.Seq.{take-suc, length-take-le}
 use Rattle.text.specs.Text.{number, byte}
-use Rattle.sheet.specs.Sheet.{space, colon, cornersIn, wireIn}
+use Rattle.sheet.specs.Sheet.{space, colon, cornersIn, wireIn, blameIn}
 
 corners-join : (k : ℕ) (xs ys : List ℕ) → length xs ≡ k + k → cornersIn (xs ++ ys) ≡ cornersIn xs ++ cornersIn ys
 unfolding cornersIn
@@ -38,3 +38,9 @@ pub wire-told : (long away : ℕ) (ns : List ℕ) → 1 ≤ length ns
 unfolding wireIn
 wire-told long away [] h = absurd (omega arith)
 wire-told long away (x ∷ ns) h = refl
+
+-- a pin that is named
+pub blame-told : (k id : ℕ) → ¬ (k ≡ 0) → blameIn k id ≡ byte space ∷ number k ∷ byte space ∷ number id ∷ []
+unfolding blameIn
+blame-told zero id n = absurd (n refl)
+blame-told (suc k) id n = refl

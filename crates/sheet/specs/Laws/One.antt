@@ -18,7 +18,7 @@ use Rattle.paper.specs.Answer.{Fed}
 use Rattle.paper.specs.History.{Call, FedAll}
 use Rattle.sheet.specs.declared.Printed.{Printed}
 use Rattle.text.specs.Text.{number, byte, Spells}
-use Rattle.sheet.specs.Sheet.{space, line-end, wireIn, lineOf, lastLine, Pieces, linesFrom, SheetOf, Steps, StepsIn}
+use Rattle.sheet.specs.Sheet.{space, line-end, wireIn, blameIn, lineOf, lastLine, Pieces, linesFrom, SheetOf, Steps, StepsIn}
 use Rattle.text.specs.Laws.Spelling.{one-spelling}
 use Rattle.text.specs.Laws.Written.{one-put}
 use Rattle.sheet.specs.Laws.Lent.{count, one-told}
@@ -27,7 +27,7 @@ use Rattle.sheet.specs.Laws.Lent.{count, one-told}
 
 same-line : (n : ℕ) (r₁ r₂ : Reply) (s₁ s₂ : List ℕ) → r₁ ≡ r₂ → take (count r₁) s₁ ≡ take (count r₂) s₂ → lineOf n r₁ s₁ ≡ lineOf n r₂ s₂
 same-line n r₁ r₂ s₁ s₂ p q =
-    ap₂ (λ r ns. number n ∷ byte space ∷ number (r .code) ∷ wireIn (r .length) (r .detour) ns ++ byte line-end ∷ []) p q
+    ap₂ (λ r ns. number n ∷ byte space ∷ number (r .code) ∷ blameIn (r .pin) (r .id) ++ wireIn (r .length) (r .detour) ns ++ byte line-end ∷ []) p q
 
 pub one-step : (file : List ℕ) (at n : ℕ) (b : Board) (x y : List ℕ) (i j : ℕ) (c d : Board) → Steps file at n b x i c → Steps file at n b y j d
     → (x ≡ y) × (i ≡ j) × (c ≡ d)

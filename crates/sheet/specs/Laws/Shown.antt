@@ -1,9 +1,10 @@
--- What a line shows: corners of an accepted lay or ask and of nothing else, and code 1 of a piece that is not 12 bytes.
+-- What a line shows: corners of an accepted lay or ask and of nothing else, a pin and an item with 11 and 18 alone, and code 1 of a piece that is
+-- not 12 bytes.
 -- Assumes nothing.
 use Prim.Native.Nat.{ℕ, zero, suc, _≤_}
 use native.Mathlib.Omega.{arith}
 use mathlib.Core.Path.{_≡_, refl, ap, subst}
-use mathlib.Core.Logic.{inl, inr, ⊎-elim}
+use mathlib.Core.Logic.{_⊎_, inl, inr, ⊎-elim}
 use mathlib.Core.List.{List, [], _∷_}
 use lib.ListN.{length}
 use Rattle.paper.specs.declared.Board.{Board}
@@ -13,11 +14,15 @@ use Rattle.paper.specs.declared.Record.{Record}
 use Rattle.paper.specs.declared.Record.the-variants.{Bounds, KeepOut, Lay, Ask, TakeOut, Undo, Malformed}
 use Rattle.paper.specs.Grid.{Node, Dir}
 use Rattle.paper.specs.Wire.{corners}
-use Rattle.paper.specs.Layout.{Layout}
+use Rattle.paper.specs.Layout.{Thing, Layout}
 use Rattle.paper.specs.Padding.{WellFormed}
 use Rattle.paper.specs.Reading.{Reads}
 use Rattle.paper.specs.Answer.{Gives, verdict, checks, Outcome, Does, Replies, Fed}
+use Rattle.paper.specs.Laws.Blamed.{Blames, Blamed, none, pin, pin-told}
 use Rattle.paper.specs.Laws.Read.{one-record}
+use Rattle.text.specs.Text.{number, byte}
+use Rattle.sheet.specs.Sheet.{space, blameIn}
+use Rattle.sheet.specs.Laws.Lines.{blame-told}
 
 -- the record is a lay or an ask
 unfoldable pub AsksWire : Record → Type 0
@@ -78,9 +83,26 @@ pub corners-told : (b : Board) (bytes s s′ : List ℕ) (rec : Record) (r : Rep
 unfolding Fed
 corners-told b bytes s s′ rec r q (inl f) =
     let none : r .corners ≡ 0 = f .2 .corners-are in
-    (λ h. absurd (omega arith), λ z. absurd (omega (arith, f .1)))
+    (λ h. absurd (omega arith), λ z. absurd (omega (arith, ap (λ v. v .code) (f .1))))
 corners-told b bytes s s′ rec r q (inr f) =
     replies-turns (f .0) rec s s′ r (subst (λ x. Replies (f .0) x s s′ r) (one-record bytes (f .1) rec (f .3) q) (f .4))
+
+-- ---- a pin and an item stand on the line exactly with 11 and 18
+
+pub blame-shown : (b : Board) (bytes s s′ : List ℕ) (r : Reply) → Fed b bytes s s′ r
+    → ((¬ (Blames (r .code))) × (blameIn (r .pin) (r .id) ≡ []))
+    ⊎ (Blames (r .code) × (blameIn (r .pin) (r .id) ≡ byte space ∷ number (r .pin) ∷ byte space ∷ number (r .id) ∷ []))
+unfolding blameIn
+blame-shown b bytes s s′ r f =
+    ⊎-elim
+    (λ e. inl (λ h. ⊎-elim (λ k. omega (arith, k, ap (λ v. v .code) e)) (λ k. omega (arith, k, ap (λ v. v .code) e)) h, ap (λ v. blameIn (v .place) (v .id)) e))
+    (λ h. shown (h .2)) (pin-told b bytes s s′ r f)
+  where
+    shown : {ts : List Thing} → Blamed ts (verdict r)
+        → ((¬ (Blames (r .code))) × (blameIn (r .pin) (r .id) ≡ []))
+        ⊎ (Blames (r .code) × (blameIn (r .pin) (r .id) ≡ byte space ∷ number (r .pin) ∷ byte space ∷ number (r .id) ∷ []))
+    shown (none n e) = inl (n, ap (λ v. blameIn (v .place) (v .id)) e)
+    shown (pin k h u) = inr (k, blame-told (r .pin) (r .id) (λ z. ⊎-elim (λ e. omega (arith, e, z)) (λ e. omega (arith, e, z)) h))
 
 -- ---- a piece that is not 12 bytes
 

@@ -47,8 +47,8 @@ returns c =
 wire-requires : tie.Need-wire-requires
 wire-requires c κs = (c .before .before .before .before .before .before .pre .0, bounded c)
 
-told-requires-2 : tie.Need-told-requires-2
-told-requires-2 c κs = search needs
+refused-requires : tie.Need-refused-requires
+refused-requires c κs = search needs
 
 returns-2 : tie.Need-returns-2
 returns-2 c =
@@ -56,7 +56,7 @@ returns-2 c =
     let r = e .before .before .before in
     let b = r .before .before .before in
     let s = b .args .answer .now in
-    subst₂ (λ rec r. Replies (layoutOf (b .args .board)) rec s s r) (sym (r .read .given .1)) (sym (c .told2 .ensures))
+    subst₂ (λ rec r. Replies (layoutOf (b .args .board)) rec s s r) (sym (r .read .given .1)) (sym (c .refused .ensures))
     (ask-refused _ (b .pre .0) _ s _ (lent e) (c .before .before .before .wire .ensures) (c .before .if2 .taken))
 
 write-requires : tie.Need-write-requires
@@ -71,8 +71,8 @@ write-requires c κs =
 wire-reply-requires : tie.Need-wire-reply-requires
 wire-reply-requires c κs = search needs
 
-told-requires-3 : tie.Need-told-requires-3
-told-requires-3 c κs = search needs
+told-requires-2 : tie.Need-told-requires-2
+told-requires-2 c κs = search needs
 
 same-length : tie.Need-same-length
 same-length c = search needs
@@ -91,7 +91,7 @@ returns-4 c =
     let b = c .before .before .before in
     let e = others (0 ∷ 1 ∷ 2 ∷ 4 ∷ 5 ∷ 6 ∷ []) 3 _ (b .pre .1) (c .before .match .keys2) (miss (0 ∷ 1 ∷ 2 ∷ 4 ∷ 5 ∷ 6 ∷ []) 3 tt) in
     let s = b .args .answer .now in
-    subst₂ (λ rec r. Replies (layoutOf (b .args .board)) rec s s r) (sym e) (sym (c .told3 .ensures)) (malformed-reply _ (b .pre .0) s)
+    subst₂ (λ rec r. Replies (layoutOf (b .args .board)) rec s s r) (sym e) (sym (c .told2 .ensures)) (malformed-reply _ (b .pre .0) s)
 
 pub ask-spec : {M : Type 1} → statement M
 ask-spec =
@@ -102,11 +102,11 @@ ask-spec =
     told-requires
     returns
     wire-requires
-    told-requires-2
+    refused-requires
     returns-2
     write-requires
     wire-reply-requires
-    told-requires-3
+    told-requires-2
     same-length
     returns-3
     returns-4)

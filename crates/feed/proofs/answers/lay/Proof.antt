@@ -63,8 +63,8 @@ returns-2 c =
 wire-requires : tie.Need-wire-requires
 wire-requires c κs = (c .before .before .before .before .before .before .before .before .pre .0, bounded (c .before .before))
 
-told-requires-3 : tie.Need-told-requires-3
-told-requires-3 c κs = search needs
+refused-requires : tie.Need-refused-requires
+refused-requires c κs = search needs
 
 returns-3 : tie.Need-returns-3
 returns-3 c =
@@ -73,7 +73,7 @@ returns-3 c =
     let r = e .before .before .before in
     let b = r .before .before .before in
     let s = b .args .answer .now in
-    subst₂ (λ rec r. Replies (layoutOf (b .args .board)) rec s s r) (sym (r .read .given .1)) (sym (c .told3 .ensures))
+    subst₂ (λ rec r. Replies (layoutOf (b .args .board)) rec s s r) (sym (r .read .given .1)) (sym (c .refused .ensures))
     (lay-refused _ (b .pre .0) _ s _ _ (lent e) (said-not (u .before .used .ensures) (u .if2 .left)) (c .before .before .before .wire .ensures) (c .before .if3 .taken))
 
 lay-wire-requires : tie.Need-lay-wire-requires
@@ -83,8 +83,8 @@ lay-wire-requires c κs =
     let b = e .before .before .before .before .before .before in
     lay-asks _ (b .pre .0) _ _ _ _ (lent e) (f .before .before .wire .ensures) (f .if3 .left)
 
-told-requires-4 : tie.Need-told-requires-4
-told-requires-4 c κs = search needs
+told-requires-3 : tie.Need-told-requires-3
+told-requires-3 c κs = search needs
 
 same-length : tie.Need-same-length
 same-length c = search needs
@@ -104,7 +104,7 @@ returns-5 c =
     let b = c .before .before .before in
     let e = others (0 ∷ 1 ∷ 3 ∷ 4 ∷ 5 ∷ 6 ∷ []) 2 _ (b .pre .1) (c .before .match .keys2) (miss (0 ∷ 1 ∷ 3 ∷ 4 ∷ 5 ∷ 6 ∷ []) 2 tt) in
     let s = b .args .answer .now in
-    subst₂ (λ rec r. Replies (layoutOf (b .args .board)) rec s s r) (sym e) (sym (c .told4 .ensures)) (malformed-reply _ (b .pre .0) s)
+    subst₂ (λ rec r. Replies (layoutOf (b .args .board)) rec s s r) (sym e) (sym (c .told3 .ensures)) (malformed-reply _ (b .pre .0) s)
 
 pub lay-spec : {M : Type 1} → statement M
 lay-spec =
@@ -118,10 +118,10 @@ lay-spec =
     told-requires-2
     returns-2
     wire-requires
-    told-requires-3
+    refused-requires
     returns-3
     lay-wire-requires
-    told-requires-4
+    told-requires-3
     same-length
     returns-4
     returns-5)

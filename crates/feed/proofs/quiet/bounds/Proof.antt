@@ -1,10 +1,10 @@
 -- `feed::quiet::bounds` meets its contract: in range or not.
 -- Assumes nothing.
-use native.Mathlib.Omega.{arith}
-use mathlib.Core.Path.{sym, ap, subst, subst₂, _∙_}
+use mathlib.Core.Path.{sym, ap, subst₂, _∙_}
 use mathlib.Core.List.{[], _∷_}
 use types.Run.{miss}
 use borrow.Author.Needs.{needs}
+use Rattle.paper.specs.Answer.{plain}
 use Rattle.paper.specs.Laws.Back.{layoutOf}
 use Rattle.paper.specs.Laws.Feeds.{refusing}
 use Rattle.paper.specs.Laws.Says.{said, said-not}
@@ -31,7 +31,7 @@ returns : tie.Need-returns
 returns c =
     let r = c .before .before .before .before .before in
     let b = r .before .before in
-    subst₂ (Quietly (layoutOf (b .args .board))) (sym (r .read .given .1)) (sym (c .told .ensures ∙ ap (refusing 0) (c .before .begin .ensures)))
+    subst₂ (Quietly (layoutOf (b .args .board))) (sym (r .read .given .1)) (sym (c .told .ensures ∙ ap (refusing (plain 0)) (c .before .begin .ensures)))
     (bounds-set _ (b .pre .0) _ (said (c .before .before .before .in-range .ensures) (c .before .before .if1 .taken)))
 
 told-requires-2 : tie.Need-told-requires-2

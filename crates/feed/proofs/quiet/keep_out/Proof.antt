@@ -1,13 +1,12 @@
 -- `feed::quiet::keep_out` meets its contract: refused by its code, or put in.
 -- Assumes nothing.
-use native.Mathlib.Omega.{arith}
 use mathlib.Core.Path.{sym, ap, subst, subst₂, _∙_}
 use mathlib.Core.List.{[], _∷_}
 use types.Run.{miss}
 use borrow.Author.Needs.{needs}
+use Rattle.paper.specs.Answer.{plain}
 use Rattle.paper.specs.Laws.Back.{layoutOf}
 use Rattle.paper.specs.Laws.Feeds.{refusing}
-use Rattle.paper.specs.Laws.Says.{said, said-not}
 use Rattle.feed.specs.Feeding.{Quietly}
 use Rattle.paper.specs.Answer.{Replies}
 use Rattle.feed.specs.Laws.Replying.{malformed-reply, keep-out-not, keep-out-set, keep-out-asks, keep-out-is}
@@ -56,7 +55,7 @@ returns-2 c =
     let l = layoutOf (b .args .board) in
     let t = keep-out-is _ (b .pre .0) _ _ _ (c .before .before .rect-item .ensures) in
     let n = c .before .add-item .ensures ∙ ap (λ t. boardOf (addTo l t)) t in
-    subst₂ (Quietly l) (sym (r .read .given .1)) (sym (c .told2 .ensures ∙ ap (refusing 0) n))
+    subst₂ (Quietly l) (sym (r .read .given .1)) (sym (c .told2 .ensures ∙ ap (refusing (plain 0)) n))
     (keep-out-set _ (b .pre .0) _ _ (subst (KeepOutCode _ _ _) (c .before .before .before .if1 .left) (c .before .before .before .before .keep-out-code .ensures)))
 
 returns-3 : tie.Need-returns-3

@@ -1,13 +1,12 @@
 -- `feed::quiet::take_out` meets its contract: refused, or taken out where it was found.
 -- Assumes nothing.
-use native.Mathlib.Omega.{arith}
 use mathlib.Core.Path.{sym, ap, subst, subst₂, _∙_}
 use mathlib.Core.List.{[], _∷_}
 use types.Run.{miss}
 use borrow.Author.Needs.{needs}
+use Rattle.paper.specs.Answer.{plain}
 use Rattle.paper.specs.Laws.Back.{layoutOf}
 use Rattle.paper.specs.Laws.Feeds.{refusing}
-use Rattle.paper.specs.Laws.Says.{said, said-not}
 use Rattle.feed.specs.Feeding.{Quietly}
 use Rattle.paper.specs.Answer.{Replies}
 use Rattle.feed.specs.Laws.Replying.{malformed-reply, no-bounds-yet, take-first, take-set, take-none}
@@ -70,7 +69,7 @@ returns-2 c =
     let a = c .before .before .before in
     let r = a .before .before .before .before .before .before in
     let b = r .before .before in
-    subst₂ (Quietly (layoutOf (b .args .board))) (sym (r .read .given .1)) (sym (c .told2 .ensures ∙ ap (refusing 0) (c .before .take-item .ensures)))
+    subst₂ (Quietly (layoutOf (b .args .board))) (sym (r .read .given .1)) (sym (c .told2 .ensures ∙ ap (refusing (plain 0)) (c .before .take-item .ensures)))
     (take-set _ (b .pre .0) _ _ (a .before .before .before .if1 .left) (there a))
 
 returns-3 : tie.Need-returns-3
