@@ -8,7 +8,6 @@ use lib.ListN.{length, take}
 use Rattle.paper.specs.declared.Board.{Board}
 use Rattle.paper.specs.Layout.{fresh}
 use Rattle.paper.specs.Padding.{boardOf, WellFormed}
-use Rattle.text.specs.Text.{Writes}
 use Rattle.checkprint.specs.declared.Last.{Last}
 use Rattle.checkprint.specs.declared.Last.the-variants.{End, Bad, Cut}
 use Rattle.checkprint.specs.declared.Stop.{Stop}
@@ -17,7 +16,7 @@ use Rattle.checkprint.specs.declared.Spare.{Spare}
 use Rattle.checkprint.specs.declared.Spare.the-variants as spare
 use Rattle.checkprint.specs.declared.Place.{Place}
 use Rattle.checkprint.specs.declared.Turn.{Turn}
-use Rattle.checkprint.specs.Checked.{most-pieces, lastLine, line-room, Acts}
+use Rattle.checkprint.specs.Checked.{most-pieces, line-room, Acts}
 
 -- ---- the pieces one after another
 
@@ -72,7 +71,3 @@ pub record Turned (p : Place) (r : Turn) (buffer : List ℕ) : Type 0 where
 pub record Ended (r : Turn) (buffer : List ℕ) : Type 0 where
   pub stands : Stands (r .place) buffer
   pub ends : EndsAt (r .stop) (r .place .pieces)
-
--- the buffer then holds the last line, from its start
-abbrev pub HoldsLast : Last → List ℕ → List ℕ → Type 0
-HoldsLast last buffer after = (n : ℕ) × Writes (lastLine last) buffer 0 after n

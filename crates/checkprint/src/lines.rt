@@ -3,15 +3,15 @@ use crate::Last;
 use drawn::judge_sound;
 use paper::Board;
 use paper::Judged;
+use records::number;
 use text::put_byte;
 use text::put_number;
 use text::put_word;
 ghost use mathlib.Core.Path.{_≡_};
 ghost use mathlib.Core.List.{[], _∷_};
-ghost use Prim.Native.Nat.{_+_, _*_, _≤_, _<_};
+ghost use Prim.Native.Nat.{_+_, _*_, _≤_};
 ghost use lib.ListN.{length, take};
 ghost use Rattle.paper.specs.Padding.{WellFormed};
-ghost use Rattle.paper.specs.Reading.{word};
 ghost use Rattle.text.specs.Text.{Part.number, Part.byte, Writes};
 ghost use Rattle.sheet.specs.Sheet.{space};
 ghost use Rattle.checkprint.specs.Checked.{most-pieces, line-room, wordsIn, toldOf, lineOf, lastLine, JudgedIn};
@@ -21,22 +21,6 @@ const MOST_NUMBERS: usize = 255;
 
 // ---- the numbers
 
-fn wide(x: u8) -> u16
-    ensures { λ r. ⌜ (r ≡ x) × (r < 256) ⌝ }
-{
-    x as u16
-}
-
-// The number that starts at a byte, little-endian.
-fn number_at(bytes: &[u8], at: usize) -> u16
-    requires { ⌜ at + 1 < length (now bytes) ⌝ }
-    ensures { λ r. ⌜ r ≡ word (now (bytes .entry)) at ⌝ }
-{
-    let low = wide(bytes[at]);
-    let high = wide(bytes[at + 1]);
-    low + 256 * high
-}
-
 // The numbers that the bytes hold: how many.
 fn put_words(bytes: &[u8], numbers: &mut [u16]) -> usize
     requires { ⌜ length (now bytes) ≤ 2 * length (now numbers) ⌝ }
@@ -45,7 +29,7 @@ fn put_words(bytes: &[u8], numbers: &mut [u16]) -> usize
     let n = bytes.len() / 2;
     let mut k: usize = 0;
     while k < n {
-        numbers[k] = number_at(bytes, k + k);
+        numbers[k] = number(bytes, k + k);
         k += 1;
     }
     n

@@ -7,8 +7,8 @@
 // `bad` where a piece is cut short or has another letter; `cut` where input is left after 65,535 pieces.
 //
 // What a piece does, which line it gets and which word comes last is proved; which bytes a system call moves is assumed.
-mod input;
 mod lines;
+mod pieces;
 mod turns;
 
 use libc::STDERR_FILENO;
@@ -16,9 +16,6 @@ use libc::STDOUT_FILENO;
 use lines::put_last;
 use paper::Board;
 use turns::print;
-ghost use Prim.Native.Nat.{_≤_};
-ghost use lib.ListN.{length};
-ghost use Rattle.checkprint.specs.Standing.{HoldsLast};
 
 // The word of the last line.
 enum Last {
@@ -61,21 +58,11 @@ enum Spare {
     Unwritten,
 }
 
-// The last line, by way of the buffer. Whether it could be written.
-fn finish(out: &mut [u8], last: Last) -> bool
-    requires { ⌜ 4 ≤ length (now out) ⌝ }
-    ensures { λ r. ⌜ HoldsLast last (now (out .entry)) (now (out .exit)) ⌝ }
-{
-    let n = put_last(out, last);
-    io::write_all(STDOUT_FILENO, &out[..n])
-}
-
-// Every line. Whether all could be read and written.
+// Every line, then the last one. Whether all could be read and written.
 fn run() -> Stop {
     let mut out = io::large_buffer();
     let end = print(&mut out);
-    let place = end.place;
-    let waiting = place.waiting;
+    let waiting = end.place.waiting;
     if !io::write_all(STDOUT_FILENO, &out[..waiting]) {
         return Stop::Unwritten;
     }
@@ -83,7 +70,8 @@ fn run() -> Stop {
     let Stop::Over(last) = stop else {
         return stop;
     };
-    if finish(&mut out, last) {
+    let n = put_last(&mut out, last);
+    if io::write_all(STDOUT_FILENO, &out[..n]) {
         return stop;
     }
     Stop::Unwritten

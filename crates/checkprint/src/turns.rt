@@ -4,10 +4,10 @@ use crate::Place;
 use crate::Spare;
 use crate::Stop;
 use crate::Turn;
-use crate::input::left_over;
-use crate::input::read_piece;
-use crate::input::stop_for;
 use crate::lines::wire_line;
+use crate::pieces::left_over;
+use crate::pieces::read_piece;
+use crate::pieces::stop_for;
 use feed::feed_sound;
 use libc::STDOUT_FILENO;
 use paper::Board;
@@ -78,26 +78,35 @@ fn with_waiting(place: Place, at: usize) -> Place
     next
 }
 
-// The piece's line goes after those that wait.
-fn put_piece(place: Place, piece: &[u8], out: &mut [u8]) -> Place
-    requires { ⌜ Stands place (now out) × (place .pieces < most-pieces) × IsPiece (now piece) × (place .waiting + line-room ≤ length (now out)) ⌝ }
-    ensures { λ r. ⌜ Stands r (now (out .exit)) × (r .pieces ≡ place .pieces + 1) ⌝ }
+// The piece's line goes after those that wait, once there is room for it.
+fn put_piece(place: Place, piece: &[u8], out: &mut [u8]) -> Turn
+    requires { ⌜ Stands place (now out) × (place .pieces < most-pieces) × IsPiece (now piece) × (line-room ≤ length (now out)) ⌝ }
+    ensures { λ r. ⌜ Turned place r (now (out .exit)) ⌝ }
 {
+    let Spare::At(at) = line_start(out, place.waiting) else {
+        return Turn {
+            place: with_waiting(place, 0),
+            stop: Stop::Unwritten,
+        };
+    };
     let board = place.board;
-    let at = place.waiting;
     let done = step(piece, place.wires, board, &mut out[at..]);
     let left = done.board;
-    Place {
+    let next = Place {
         pieces: place.pieces + 1,
         wires: done.wires,
         waiting: at + done.written,
         board: left,
+    };
+    Turn {
+        place: next,
+        stop: Stop::Going,
     }
 }
 
 // One piece more, or the end: nothing was read, or no piece, or the read failed.
-fn next_piece(place: Place, room: &mut [u8], out: &mut [u8]) -> Turn
-    requires { ⌜ Stands place (now out) × (place .pieces < most-pieces) × (length (now room) ≡ most-bytes) × (place .waiting + line-room ≤ length (now out)) ⌝ }
+fn take_turn(place: Place, room: &mut [u8], out: &mut [u8]) -> Turn
+    requires { ⌜ Stands place (now out) × (place .pieces < most-pieces) × (length (now room) ≡ most-bytes) × (line-room ≤ length (now out)) ⌝ }
     ensures { λ r. ⌜ Turned place r (now (out .exit)) ⌝ }
 {
     let input = read_piece(room);
@@ -115,24 +124,7 @@ fn next_piece(place: Place, room: &mut [u8], out: &mut [u8]) -> Turn
             stop: stop,
         };
     };
-    Turn {
-        place: put_piece(place, &room[..size], out),
-        stop: Stop::Going,
-    }
-}
-
-// The same, once there is room for a line.
-fn take_turn(place: Place, room: &mut [u8], out: &mut [u8]) -> Turn
-    requires { ⌜ Stands place (now out) × (place .pieces < most-pieces) × (length (now room) ≡ most-bytes) × (line-room ≤ length (now out)) ⌝ }
-    ensures { λ r. ⌜ Turned place r (now (out .exit)) ⌝ }
-{
-    let Spare::At(at) = line_start(out, place.waiting) else {
-        return Turn {
-            place: with_waiting(place, 0),
-            stop: Stop::Unwritten,
-        };
-    };
-    next_piece(with_waiting(place, at), room, out)
+    put_piece(place, &room[..size], out)
 }
 
 fn piece_room() -> [u8; MOST_BYTES]

@@ -1,9 +1,13 @@
 // A wire drawn by hand, told by its corners: the first check that it fails, or by how many steps it is longer than a shortest one.
+mod corners;
+
 use blocks::Blocks;
 use blocks::Look;
 use blocks::hit;
 use blocks::of_board;
 use blocks::stretch;
+use corners::long;
+use corners::wire_of;
 use paper::Board;
 use paper::Item;
 use paper::Judged;
@@ -15,8 +19,6 @@ use router::find_wire;
 use shapes::Fault;
 use shapes::bad_shape;
 use shapes::fault_at;
-use shapes::long;
-use shapes::wire_of;
 use soundness::sound;
 ghost use mathlib.Core.Path.{_≡_};
 ghost use Prim.Native.Nat.{ℕ, _+_, _<_, _≤_};

@@ -10,6 +10,8 @@ use blocks::hit;
 use blocks::of_board;
 use blocks::scan;
 use paper::Board;
+use paper::Item;
+use paper::MOST_BLOCKS;
 use paper::MOST_CORNERS;
 use paper::Pins;
 use paper::Size;
@@ -19,12 +21,11 @@ use router::Routed;
 use router::find_wire;
 ghost use mathlib.Core.Path.{_≡_};
 ghost use Prim.Native.Nat.{_<_, _≤_};
-ghost use lib.ListN.{length};
-ghost use Rattle.paper.specs.Layout.{idOf};
-ghost use Rattle.paper.specs.Padding.{WellFormed};
+ghost use lib.ListN.{getD};
+ghost use Rattle.paper.specs.Limits.{most-blocks};
+ghost use Rattle.paper.specs.Padding.{no-item, WellFormed};
 ghost use Rattle.paper.specs.Answer.{named};
 ghost use Rattle.paper.specs.Laws.Back.{layoutOf};
-ghost use Rattle.paper.specs.Laws.Standing.{thingAt};
 ghost use Rattle.blocks.specs.declared.Look.the-variants.{KeepOuts};
 ghost use Rattle.blocks.specs.declared.Found.the-variants.{Nothing};
 ghost use Rattle.blocks.specs.Flat.{Fits, FirstIs};
@@ -108,12 +109,12 @@ fn pins_stop(size: Size, held: Blocks, p: Pins) -> Stop
     pin_stop(held, here(p.tx, p.ty), 2)
 }
 
-// The id of the board's item at a place. The first item of a sort has the smallest.
-fn id_at(board: Board, i: usize) -> u16
-    requires { ⌜ WellFormed board × (i < length (layoutOf board .items)) ⌝ }
-    ensures { λ r. ⌜ r ≡ idOf (thingAt (layoutOf board .items) i) ⌝ }
+// The id of the item at a place. It takes the items alone: a board would be copied whole.
+fn id_at(items: [Item; MOST_BLOCKS], i: usize) -> u16
+    requires { ⌜ i < most-blocks ⌝ }
+    ensures { λ r. ⌜ r ≡ getD items i no-item .id ⌝ }
 {
-    board.items[i].id
+    items[i].id
 }
 
 fn verdict(code: u8, pin: u8, id: u16) -> Verdict
@@ -177,7 +178,8 @@ pub(crate) fn wire(board: Board, p: Pins) -> Wired
     let stop = pins_stop(board.size, held, p);
     if stop.pin != 0 {
         let i = stop.item;
-        return no_wire(verdict(stop.code, stop.pin, id_at(board, i)));
+        let items = board.items;
+        return no_wire(verdict(stop.code, stop.pin, id_at(items, i)));
     }
     if stop.code != 0 {
         return no_wire(verdict(stop.code, 0, 0));

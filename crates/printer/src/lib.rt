@@ -2,8 +2,8 @@
 //
 // What stands in the buffer when it is written is proved (specs/Filled.antt, by the steps of crates/sheet); which bytes a system call moves is
 // assumed.
+use input::read_all;
 use libc::STDERR_FILENO;
-use libc::STDIN_FILENO;
 use libc::STDOUT_FILENO;
 use paper::Board;
 use sheet::LINE_ROOM;
@@ -22,40 +22,6 @@ fn file_room() -> [u8; 786421]
     ensures { λ r. ⌜ 786421 ≡ length r ⌝ }
 {
     [0; 786421]
-}
-
-// How many bytes were read, and whether a read failed.
-struct Input {
-    size: usize,
-    failed: bool,
-}
-
-// Reads until the room is full, the input ends or a read fails.
-fn read_all(room: &mut [u8]) -> Input
-    ensures { λ r. ⌜ r .size ≤ length (now (room .exit)) ⌝ }
-{
-    let mut done: usize = 0;
-    while done < room.len() {
-        let got = libc::read(STDIN_FILENO, &mut room[done..]);
-        if got < 0 {
-            return Input {
-                size: done,
-                failed: true,
-            };
-        }
-        let more = io::count(got, &room[done..]);
-        if more == 0 {
-            return Input {
-                size: done,
-                failed: false,
-            };
-        }
-        done += more;
-    }
-    Input {
-        size: done,
-        failed: false,
-    }
 }
 
 // ---- printing

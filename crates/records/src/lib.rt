@@ -26,7 +26,7 @@ fn wide(x: u8) -> u16
 }
 
 // The 16-bit number that starts at a byte, little-endian.
-fn number(bytes: &[u8], at: usize) -> u16
+pub fn number(bytes: &[u8], at: usize) -> u16
     requires { ⌜ at + 1 < length (now bytes) ⌝ }
     ensures { λ r. ⌜ r ≡ word (now (bytes .entry)) at ⌝ }
 {

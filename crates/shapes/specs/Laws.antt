@@ -2,8 +2,6 @@
 
 -- an item's corners and runs, place by place
 pub mod Corners
-pub mod Drawn
--- their shape and their length
+-- their shape
 pub mod Bad
 pub mod Fits
-pub mod Long

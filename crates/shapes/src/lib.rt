@@ -1,19 +1,17 @@
-// The shape of one wire, by the corners of its item: its ends, its runs along the axes and each across the one before, its length.
+// The shape of one wire, by the corners of its item: its ends, its runs along the axes and each across the one before.
 use blocks::stretch;
 use paper::Item;
-use paper::MOST_CORNERS;
 use paper::Size;
 ghost use mathlib.Core.Path.{_≡_};
 ghost use Prim.Native.Nat.{_+_, _<_, _≤_};
 ghost use Rattle.paper.specs.Limits.{most-corners, most-runs};
 ghost use Rattle.paper.specs.Grid.{All};
-ghost use Rattle.paper.specs.Wire.{runs, manhattan};
-ghost use Rattle.paper.specs.Layout.{wire, OnBoard, Along, EndsDiffer, WireFits};
-ghost use Rattle.paper.specs.Padding.{itemOf};
+ghost use Rattle.paper.specs.Wire.{runs};
+ghost use Rattle.paper.specs.Layout.{OnBoard, Along, EndsDiffer, WireFits};
 ghost use Rattle.paper.specs.Answer.{Gives};
-ghost use Rattle.paper.specs.Drawn.{drawn, CountFits, shapeChecks, formChecks, longOf};
+ghost use Rattle.paper.specs.Drawn.{shapeChecks, formChecks};
 ghost use Rattle.paper.specs.Laws.Says.{Says};
-ghost use Rattle.blocks.specs.Growing.{cornerAt, stretchAt};
+ghost use Rattle.blocks.specs.Growing.{stretchAt};
 ghost use Rattle.shapes.specs.Corners.{axisFor, cornersOf};
 ghost use Rattle.shapes.specs.Faults.{faultOf, noFault, faultAt};
 
@@ -37,30 +35,6 @@ pub fn fault_at(code: u8, k: usize) -> Fault
     Fault {
         code: code,
         run: (k + 1) as u8,
-    }
-}
-
-// ---- the corners
-
-// The numbers as the corners of an item, without an id.
-pub fn wire_of(numbers: &[u16]) -> Item
-    requires { ⌜ CountFits (now numbers) ⌝ }
-    ensures { λ r. ⌜ r ≡ itemOf (wire 0 (drawn (now (numbers .entry)))) ⌝ }
-{
-    let n = numbers.len() / 2;
-    let mut xs = [0u16; MOST_CORNERS];
-    let mut ys = [0u16; MOST_CORNERS];
-    let mut k: usize = 0;
-    while k < n {
-        xs[k] = numbers[k + k];
-        ys[k] = numbers[k + k + 1];
-        k += 1;
-    }
-    Item {
-        id: 0,
-        runs: (n - 1) as u8,
-        xs: xs,
-        ys: ys,
     }
 }
 
@@ -158,28 +132,4 @@ pub fn wire_fits(size: Size, item: Item, n: usize) -> bool
     }
     let fault = bad_shape(item, n);
     fault.code == 0
-}
-
-// ---- the length
-
-fn run_long(item: Item, k: usize) -> u32
-    requires { ⌜ k < most-runs ⌝ }
-    ensures { λ r. ⌜ (r ≡ manhattan (cornerAt item k) (cornerAt item (k + 1))) × (r ≤ 131070) ⌝ }
-{
-    let run = stretch(item, k);
-    (run.x1 - run.x0) as u32 + (run.y1 - run.y0) as u32
-}
-
-// The length of the item's first n runs.
-pub fn long(item: Item, n: usize) -> u32
-    requires { ⌜ n ≤ most-runs ⌝ }
-    ensures { λ r. ⌜ r ≡ longOf (cornersOf item (n + 1)) ⌝ }
-{
-    let mut sum: u32 = 0;
-    let mut k: usize = 0;
-    while k < n {
-        sum += run_long(item, k);
-        k += 1;
-    }
-    sum
 }

@@ -1,8 +1,9 @@
--- `checkprint::run` meets its contract: what waits lies within the buffer.
+-- `checkprint::run` meets its contract: what waits lies within the buffer, and so does the last line.
 -- Assumes nothing.
 use mathlib.Core.Path.{sym}
 use lib.Seq.{length-take-le}
 use borrow.Author.Needs.{needs}
+use Rattle.checkprint.specs.Laws.Placed.{put-within}
 use Rattle.checkprint.proofs.run.Statement.{statement}
 use Rattle.checkprint.proofs.run.Tie as tie
 
@@ -19,7 +20,7 @@ array-share-prefix-out : tie.Need-array-share-prefix-out
 array-share-prefix-out c = search needs
 
 slice-aggregate-write-all : tie.Need-slice-aggregate-write-all
-slice-aggregate-write-all c = sym (length-take-le _ _ (c .before .before .before .print .ensures .stands .inside))
+slice-aggregate-write-all c = sym (length-take-le _ _ (c .before .before .print .ensures .stands .inside))
 
 write-all-requires : tie.Need-write-all-requires
 write-all-requires c κs = search needs
@@ -33,11 +34,20 @@ enum-known-stop c = search needs
 returns-2 : tie.Need-returns-2
 returns-2 c = search needs
 
-slice-aggregate-finish : tie.Need-slice-aggregate-finish
-slice-aggregate-finish c = search needs
+slice-aggregate-put-last : tie.Need-slice-aggregate-put-last
+slice-aggregate-put-last c = search needs
 
-finish-requires : tie.Need-finish-requires
-finish-requires c κs = search needs
+put-last-requires : tie.Need-put-last-requires
+put-last-requires c κs = search needs
+
+array-share-prefix-out-2 : tie.Need-array-share-prefix-out-2
+array-share-prefix-out-2 c = search needs
+
+slice-aggregate-write-all-2 : tie.Need-slice-aggregate-write-all-2
+slice-aggregate-write-all-2 c = put-within _ _ _ _ (c .before .before .put-last .ensures .put)
+
+write-all-requires-2 : tie.Need-write-all-requires-2
+write-all-requires-2 c κs = search needs
 
 returns-3 : tie.Need-returns-3
 returns-3 c = search needs
@@ -58,7 +68,10 @@ run-spec =
     returns
     enum-known-stop
     returns-2
-    slice-aggregate-finish
-    finish-requires
+    slice-aggregate-put-last
+    put-last-requires
+    array-share-prefix-out-2
+    slice-aggregate-write-all-2
+    write-all-requires-2
     returns-3
     returns-4)

@@ -31,7 +31,7 @@ use Rattle.shapes.specs.Laws.Corners.{corners-one, last-listed}
 use Rattle.router.specs.Route.{Asked}
 use Rattle.shapes.specs.declared.Fault.{Fault}
 use Rattle.shapes.specs.Faults.{faultOf}
-use Rattle.shapes.specs.Laws.Drawn.{corners-back, item-long}
+use Rattle.drawn.specs.Laws.Numbers.{corners-back, item-long}
 use Rattle.drawn.specs.Drawing.{refusedBy, AllSay, Reached, Over, pinsOf}
 
 -- ---- refused

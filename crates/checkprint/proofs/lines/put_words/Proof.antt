@@ -21,11 +21,11 @@ abbrev μ-loop : tie.MeasureT-loop
 loop-holds : tie.Need-loop-holds Inv-loop μ-loop
 loop-holds c = (refl, omega arith, refl, refl)
 
-add-number-at : tie.Need-add-number-at Inv-loop μ-loop
-add-number-at c = search needs
+add-number : tie.Need-add-number Inv-loop μ-loop
+add-number c = search needs
 
-number-at-requires : tie.Need-number-at-requires Inv-loop μ-loop
-number-at-requires c κs = search needs
+number-requires : tie.Need-number-requires Inv-loop μ-loop
+number-requires c κs = search needs
 
 mul-numbers : tie.Need-mul-numbers Inv-loop μ-loop
 mul-numbers c = search needs
@@ -51,7 +51,7 @@ loop-again c =
       l .loop .inv .0,
       omega (arith, t .loop-test .taken),
       simp length-set (l .loop .inv .2),
-      rw (c .number-at .ensures) (word-more (s .args .bytes .now) ns k few more (l .loop .inv .3)),
+      rw (c .number .ensures) (word-more (s .args .bytes .now) ns k few more (l .loop .inv .3)),
     )
 
 same-length : tie.Need-same-length Inv-loop μ-loop
@@ -74,8 +74,8 @@ put-words-spec =
     Inv-loop
     μ-loop
     loop-holds
-    add-number-at
-    number-at-requires
+    add-number
+    number-requires
     mul-numbers
     slice-write-numbers
     add-k

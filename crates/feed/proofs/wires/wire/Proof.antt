@@ -6,6 +6,7 @@ use borrow.Author.Needs.{needs}
 use Rattle.paper.specs.Answer.{named, plain, Gives}
 use Rattle.paper.specs.Laws.Back.{layoutOf, well-formed}
 use Rattle.paper.specs.Laws.One.{sound-rising}
+use Rattle.paper.specs.Laws.Standing.{well-standing, id-at}
 use Rattle.blocks.specs.Laws.Held.{held-fits, count-held}
 use Rattle.feed.specs.Feeding.{startChecks, PinsSaid, StopsPins, noWire, Wires}
 use Rattle.feed.specs.Laws.Replying.{laid-now}
@@ -34,9 +35,9 @@ pins-stop-requires c κs = held-fits (c .of-board .ensures)
 
 id-at-requires : tie.Need-id-at-requires
 id-at-requires c κs =
-    let h = c .before .before in
-    let there = said-item _ _ _ (pins-said h) (c .if1 .taken) .1 in
-    (h .before .before .pre .0, omega (arith, there))
+    let i = c .before in
+    let h = i .before .before in
+    omega (arith, said-item _ _ _ (pins-said h) (i .if1 .taken) .1, well-standing _ (h .before .before .pre .0) .items-few)
 
 verdict-requires : tie.Need-verdict-requires
 verdict-requires c κs = search needs
@@ -47,10 +48,12 @@ no-wire-requires c κs = search needs
 returns : tie.Need-returns
 returns c =
     let i = c .before .before in
-    let h = i .before .before .before in
-    let s = h .before .before .args in
-    let g = said-item _ _ _ (pins-said h) (i .before .if1 .taken) in
-    subst (Wires (layoutOf (s .board)) (s .p)) (sym (c .no-wire .ensures ∙ ap noWire (c .before .verdict .ensures ∙ ap (named _ _) (i .id-at .ensures))))
+    let f = i .before .before in
+    let h = f .before .before in
+    let s = h .before .before in
+    let g = said-item _ _ _ (pins-said h) (f .if1 .taken) in
+    let e = i .id-at .ensures ∙ id-at _ (well-standing _ (s .pre .0)) _ _ (g .1) in
+    subst (Wires (layoutOf (s .args .board)) (s .args .p)) (sym (c .no-wire .ensures ∙ ap noWire (c .before .verdict .ensures ∙ ap (named _ _) e)))
     (refused-start _ _ _ (g .0) (g .2))
 
 verdict-requires-2 : tie.Need-verdict-requires-2
