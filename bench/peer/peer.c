@@ -22,7 +22,7 @@ static void mix(u64 value)
     sum = (sum * 31 + value) % 1000003;
 }
 
-// Are both pins on the board, at two nodes, and in no open box?
+// Are both pins on the board, at two nodes, and not blocked?
 static int can_be_asked(const Question *q)
 {
     return q->sx <= q->w && q->tx <= q->w && q->sy <= q->h && q->ty <= q->h

@@ -1,5 +1,5 @@
 // The peer of trackprint: records on standard input, document 01's sheet (with
-// document 02's order 2) on standard output, as a good engineer would write it
+// document 02's orders 2 and 3) on standard output, as a good engineer would write it
 // without proofs. It is only timed beside the proved program and compared with
 // the second router; no expected output is made with it.
 
@@ -155,6 +155,30 @@ static int meets(const Row *area, int wires)
     return 0;
 }
 
+// Does a wire run along a seam, for a unit or more? One that crosses it would be in
+// a keep-out.
+static int runs_along(const Row *shared)
+{
+    const Row *b = board.rows;
+    for (int i = 0; i < board.n; i++, b++) {
+        int x0 = most(shared->x0, b->x0), x1 = least(shared->x1, b->x1);
+        int y0 = most(shared->y0, b->y0), y1 = least(shared->y1, b->y1);
+        if (b->c > 0 && x0 <= x1 && y0 <= y1 && (x0 < x1 || y0 < y1))
+            return 1;
+    }
+    return 0;
+}
+
+// Would a keep-out close a seam over a wire?
+static int closes_over_wire(const Row *area)
+{
+    Row shared;
+    for (int i = 0; i < board.n; i++)
+        if (board.rows[i].c == 0 && seam(area, &board.rows[i], &shared) && runs_along(&shared))
+            return 1;
+    return 0;
+}
+
 static u32 keep_out(const Record *r)
 {
     Row area = {r->a, r->b, r->c, r->d, 0};
@@ -164,31 +188,35 @@ static u32 keep_out(const Record *r)
         return BAD_RECTANGLE;
     if (meets(&area, 0))
         return MEETS_KEEPOUT;
-    if (meets(&area, 1))
+    if (meets(&area, 1) || closes_over_wire(&area))
         return MEETS_WIRE;
     return change_by_adding((Item){r->id, 0, 1}, &area);
 }
 
-// What is said of a pin: whether a keep-out blocks it, and if none does, whether
-// a wire does, each time with the smallest id. Most pins are free, which is seen
-// first.
+// What is said of a pin: whether keep-outs block it, of which each holds a cell
+// next to it, and if none does, whether a wire does, each time with the smallest
+// id. Most pins are free, which is seen first.
 static u32 check_pin(u32 pin, int x, int y)
 {
     if (!pin_blocked(&board, x, y))
         return ACCEPTED;
     u32 ids[2] = {0, 0}; // of a keep-out and of a wire, 0 if there is none
+    int held = 0;
     const Row *b = board.rows;
     for (int i = 0; i < item_count; b += items[i++].count) {
         u32 *id = &ids[items[i].is_wire];
+        if (!items[i].is_wire)
+            held |= cells_held(b, x, y);
         if (*id != 0 && *id < items[i].id)
             continue;
         for (int j = 0; j < items[i].count; j++)
-            if (in_box(&b[j], x, y))
+            if (items[i].is_wire ? in_box(&b[j], x, y) : cells_held(&b[j], x, y) != 0)
                 *id = items[i].id;
     }
+    int in_keepout = held == 15;
     blocked.pin = pin;
-    blocked.id = ids[0] != 0 ? ids[0] : ids[1];
-    return ids[0] != 0 ? PIN_IN_KEEPOUT : PIN_NEAR_WIRE;
+    blocked.id = ids[in_keepout ? 0 : 1];
+    return in_keepout ? PIN_IN_KEEPOUT : PIN_NEAR_WIRE;
 }
 
 static u32 ask(const Record *r, Answer *a)
@@ -210,16 +238,6 @@ static u32 ask(const Record *r, Answer *a)
     return a->code;
 }
 
-static u16 least(u16 a, u16 b)
-{
-    return a < b ? a : b;
-}
-
-static u16 most(u16 a, u16 b)
-{
-    return a < b ? b : a;
-}
-
 static u32 lay(const Record *r, Answer *a)
 {
     if (find_item(r->id) >= 0)
@@ -231,7 +249,10 @@ static u32 lay(const Record *r, Answer *a)
     u32 count = a->count - 1;
     for (u32 i = 0; i < count; i++) {
         u16 x = a->x[i], next_x = a->x[i + 1], y = a->y[i], next_y = a->y[i + 1];
-        runs[i] = (Row){least(x, next_x), least(y, next_y), most(x, next_x), most(y, next_y), clearance};
+        runs[i] = (Row){
+            (u16)least(x, next_x), (u16)least(y, next_y),
+            (u16)most(x, next_x), (u16)most(y, next_y), clearance,
+        };
     }
     return change_by_adding((Item){r->id, 1, (u8)count}, runs);
 }

@@ -1,10 +1,12 @@
-//! Which pin is blocked, and by which item: document 02's order 2.
+//! Which pin is blocked, and by which item: document 02's order 2, and order 3 for
+//! pins on a seam.
 
 use std::collections::BTreeMap;
 
+use crate::cells::{cells_round, Cover};
 use crate::code::{Blocked, Code};
 use crate::fault::Fault;
-use crate::geometry::Point;
+use crate::geometry::{Point, Rect};
 use crate::item::{Frame, Item, Sort};
 use crate::record::Pins;
 
@@ -42,16 +44,22 @@ pub fn refusal(
     })
 }
 
-/// The items that block a node: keep-outs that it lies inside, and wires that it
-/// is nearer to than the clearance, which is inside the box of a run.
+/// The items that block a node: keep-outs that it lies inside, wires that it is
+/// nearer to than the clearance, which is inside the box of a run, and where all
+/// four cells round it are covered, every keep-out that holds one of them.
 pub fn blockers(
     items: &BTreeMap<u16, Item>,
     frame: &Frame,
     p: Point,
     fault: Fault,
 ) -> Vec<Blocker> {
-    let blocks =
-        |item: &Item| item.blocks(frame, fault).iter().any(|block| block.interior_holds(p));
+    let closed = Cover::of(frame, items.values(), fault).closes_node(p);
+    let holds_a_cell =
+        |keepout: Rect| cells_round(p).into_iter().any(|cell| keepout.holds_cell(cell));
+    let blocks = |item: &Item| {
+        item.blocks(frame, fault).iter().any(|block| block.interior_holds(p))
+            || (closed && item.keepout().is_some_and(holds_a_cell))
+    };
     let blocking = items.iter().filter(|(_, item)| blocks(item));
     blocking.map(|(&id, item)| Blocker { sort: item.sort(), id }).collect()
 }

@@ -3,6 +3,7 @@
 use std::collections::{BTreeMap, VecDeque};
 
 use crate::blocked::{self, Blocker};
+use crate::cells::Cover;
 use crate::code::Code;
 use crate::fault::Fault;
 use crate::geometry::{Point, Rect};
@@ -68,7 +69,13 @@ impl Board {
         self.items.values().flat_map(|item| item.blocks(&frame, Fault::None)).collect()
     }
 
-    /// Does the node lie in the interior of a block?
+    /// What the keep-outs cover.
+    pub fn cover(&self) -> Cover {
+        let Some(frame) = self.frame else { return Cover::default() };
+        Cover::of(&frame, self.items.values(), self.router.fault())
+    }
+
+    /// Does the node lie in the interior of a block, or inside a seam?
     pub fn node_blocked(&mut self, p: Point) -> bool {
         let Some(frame) = self.frame else { return false };
         self.router.prepare(&frame, self.items.values());
@@ -89,6 +96,18 @@ impl Board {
             return None;
         }
         self.router.shortest(&frame, s, t)
+    }
+
+    /// Makes this a board of that size with these items and no kept changes.
+    pub fn stand<'a>(
+        &mut self,
+        frame: Option<Frame>,
+        items: impl Iterator<Item = (u16, &'a Item)>,
+    ) {
+        self.frame = frame;
+        self.items = items.map(|(id, item)| (id, item.clone())).collect();
+        self.kept.clear();
+        self.router.forget();
     }
 
     /// Takes one piece of a file. A refusal changes nothing.
@@ -139,14 +158,22 @@ impl Board {
         if self.keepouts().any(|other| rect.interior_meets(other)) {
             return Err(Code::MeetsKeepout);
         }
-        // The wire itself counts here, not the boxes around it.
-        if self.wires().any(|wire| wire.runs().any(|run| rect.interior_meets(run))) {
+        let item = Item::Keepout(rect);
+        if self.shuts_in_a_wire(frame, &item, rect) {
             return Err(Code::MeetsWire);
         }
-        let item = Item::Keepout(rect);
         self.check_room_for(&item)?;
         self.change_by_adding(frame, id, item);
         Ok(None)
+    }
+
+    /// Does a wire run through a new keep-out, or along a seam that it closes? The
+    /// wire itself counts here, not the boxes around it.
+    fn shuts_in_a_wire(&self, frame: &Frame, item: &Item, rect: Rect) -> bool {
+        let items = self.items.values().chain([item]);
+        let cover = Cover::of(frame, items, self.router.fault());
+        let meets = |run: Rect| rect.interior_meets(run) || cover.closes_part_of(run);
+        self.wires().any(|wire| wire.runs().any(meets))
     }
 
     fn lay(&mut self, frame: &Frame, id: u16, pins: Pins) -> Outcome {
@@ -234,10 +261,7 @@ impl Board {
     }
 
     pub fn keepouts(&self) -> impl Iterator<Item = Rect> + '_ {
-        self.items.values().filter_map(|item| match item {
-            Item::Keepout(rect) => Some(*rect),
-            Item::Wire(_) => None,
-        })
+        self.items.values().filter_map(Item::keepout)
     }
 
     pub fn wires(&self) -> impl Iterator<Item = &Wire> + '_ {

@@ -12,12 +12,13 @@ const SEED: u64 = 1_510;
 /// The styles in their order, with their numbers of records. The mazes come
 /// often for the sake of wires at the limit; the broken records come last,
 /// since their last piece is a short one.
-const PARTS: [(&str, usize); 10] = [
-    ("small", 3_000),
-    ("maze", 4_500),
+const PARTS: [(&str, usize); 11] = [
+    ("small", 2_500),
+    ("maze", 4_000),
     ("widest", 5_000),
-    ("flush", 2_500),
-    ("history", 2_000),
+    ("flush", 2_000),
+    ("bricks", 2_000),
+    ("history", 1_500),
     ("large", 1_500),
     ("full", 2_000),
     ("long", 1_000),

@@ -68,6 +68,10 @@ impl Scene {
         let mut paper = Paper::new(*frame);
         self.add_head(frame, &mut paper);
         paper.add_board();
+        // All rims come before all areas, so that no line is left along a seam.
+        for keepout in self.board.keepouts() {
+            paper.add_rim(keepout);
+        }
         for (_, item) in self.board.items() {
             paper.add_blocks(item);
         }

@@ -2,8 +2,8 @@
 //! units is it longer than the shortest? Nothing is laid.
 //!
 //! Document 02's order 1 asks for this. The tests of shape and place are written
-//! from its words and ask the board for its items only. The shortest length alone
-//! comes from the searches.
+//! from its words, and order 3's, and ask the board for its items and the cells
+//! that they cover only. The shortest length alone comes from the searches.
 //!
 //! `pieces` is the file of records and drawn wires, `sheet` prints a line for
 //! each wire, `tally` counts them, `text` is the file as readable text, `words`
@@ -17,6 +17,7 @@ pub mod text;
 pub mod words;
 
 use crate::board::Board;
+use crate::cells::Cover;
 use crate::geometry::{Point, Rect};
 use crate::item::Frame;
 use crate::wire::Wire;
@@ -105,7 +106,7 @@ fn check(board: &Board, numbers: &[u16], slip: Slip) -> Result<Wire, Refusal> {
     if wire.start() == wire.end() {
         return Err((Finding::EndsEqual, 0));
     }
-    let ground = Ground { board, frame, corners: wire.corners(), slip };
+    let ground = Ground { board, cover: board.cover(), frame, corners: wire.corners(), slip };
     for stage in slip.stages().unwrap_or(&RUNS_IN_ORDER) {
         for index in 0..wire.run_count() - slip.runs_left_out() {
             if let Some(finding) = stage.iter().find(|finding| ground.has(index, **finding)) {
@@ -119,6 +120,7 @@ fn check(board: &Board, numbers: &[u16], slip: Slip) -> Result<Wire, Refusal> {
 /// A drawn wire over its board.
 struct Ground<'a> {
     board: &'a Board,
+    cover: Cover,
     frame: &'a Frame,
     corners: &'a [Point],
     slip: Slip,
@@ -134,6 +136,7 @@ impl Ground<'_> {
             Finding::InKeepout => {
                 let run = Rect::spanned(from, to);
                 self.board.keepouts().any(|keepout| enters(run, keepout))
+                    || self.cover.closes_part_of(run)
             }
             Finding::NearWire => self.is_near_wire(Rect::spanned(from, to)),
             _ => false,

@@ -1,10 +1,12 @@
 //! Faults that the tests plant on purpose, to show that they would be noticed.
 //!
-//! The program always runs with `Fault::None`; only tests pass another one.
-//! They are the four ways astray that document 01 names, and wrong readings of
-//! document 02's order 2.
+//! The program always answers with `Fault::None`. The others are the four ways
+//! astray that document 01 names, wrong readings of document 02's order 2, and its
+//! order 3 left out; the last also tells `reopened` and `questions` where seams
+//! matter.
 
 use crate::blocked::Order;
+use crate::cells::Cover;
 use crate::geometry::Rect;
 use crate::item::{Frame, Sort};
 use crate::record::Pins;
@@ -34,6 +36,8 @@ pub enum Fault {
     SecondPinFirst,
     /// t is taken for pin 1, and s for pin 2.
     PinsExchanged,
+    /// Seams between keep-outs are left open, for wires and pins alike.
+    OpenSeams,
 }
 
 impl Fault {
@@ -59,12 +63,21 @@ impl Fault {
                     block.y1.min(frame.h),
                 )
             }),
-            Fault::InteriorNodes => {
-                blocks.retain(|block| block.x1 - block.x0 > 1 && block.y1 - block.y0 > 1)
-            }
+            Fault::InteriorNodes => blocks.retain(has_inner_node),
             _ => {}
         }
         blocks
+    }
+
+    /// What keep-outs cover, as this fault sees it. Without covered cells no seam
+    /// is closed; the interiors of keep-outs are blocked all the same.
+    pub fn spoil_cover(self, mut cover: Cover) -> Cover {
+        match self {
+            Fault::OpenSeams => cover.retain(|_| false),
+            Fault::InteriorNodes => cover.retain(has_inner_node),
+            _ => {}
+        }
+        cover
     }
 
     /// The rectangles whose sides the wide search cuts the board at.
@@ -93,6 +106,10 @@ impl Fault {
             _ => Pins { s, t },
         }
     }
+}
+
+fn has_inner_node(block: &Rect) -> bool {
+    block.x1 - block.x0 > 1 && block.y1 - block.y0 > 1
 }
 
 /// Each heap of touching blocks as the rectangle around it.

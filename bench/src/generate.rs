@@ -6,6 +6,7 @@
 //! aim: at ids in use, at sides that already stand, at pins across a block.
 
 mod aim;
+mod bricks;
 mod broken;
 pub mod drawn;
 mod episodes;
@@ -21,7 +22,7 @@ pub struct Style {
     episode: fn(&mut Maker),
 }
 
-pub const STYLES: [Style; 11] = [
+pub const STYLES: [Style; 12] = [
     Style { name: "small", about: "dense boards of up to 14 x 14", episode: episodes::small },
     Style {
         name: "history",
@@ -53,6 +54,11 @@ pub const STYLES: [Style; 11] = [
         name: "broken",
         about: "malformed records of every sort, records before bounds, a short last piece",
         episode: broken::broken,
+    },
+    Style {
+        name: "bricks",
+        about: "keep-outs that share sides: rows, L and T shapes, wires along them, pins on seams",
+        episode: bricks::bricks,
     },
     Style { name: "mixed", about: "all of the above in turn", episode: mixed },
     Style {
@@ -114,6 +120,7 @@ fn mixed(maker: &mut Maker) {
         maze::maze,
         episodes::flush,
         broken::broken,
+        bricks::bricks,
     ];
     maker.rng.pick(&others)(maker)
 }

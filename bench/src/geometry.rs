@@ -84,6 +84,11 @@ impl Rect {
         self.x0 <= p.x && p.x <= self.x1 && self.y0 <= p.y && p.y <= self.y1
     }
 
+    /// Does it hold the unit cell with this lower left corner?
+    pub fn holds_cell(self, cell: Point) -> bool {
+        self.x0 <= cell.x && cell.x < self.x1 && self.y0 <= cell.y && cell.y < self.y1
+    }
+
     /// Does the interior of this rectangle, which is not empty, meet `other`?
     ///
     /// `other` may be a rectangle of which the interior is meant, or the closed

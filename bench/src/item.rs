@@ -49,6 +49,14 @@ impl Item {
         }
     }
 
+    /// The rectangle of a keep-out.
+    pub fn keepout(&self) -> Option<Rect> {
+        match self {
+            Item::Keepout(rect) => Some(*rect),
+            Item::Wire(_) => None,
+        }
+    }
+
     pub fn block_count(&self) -> usize {
         match self {
             Item::Keepout(_) => 1,

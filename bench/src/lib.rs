@@ -5,10 +5,11 @@
 //! page that gives the router's rules, "document 02" that of change requests.
 //!
 //! Read it in this order: `limits` and `geometry` name things, `record` reads
-//! twelve bytes, `board` keeps the items and decides the codes, `blocked` says
-//! what blocks a pin, `route` picks one of the two searches (`unit`, `wide`),
-//! `sheet` prints. `drawn` judges wires drawn by hand. The other tools are `generate`, `tally`, `text` and `draw`;
-//! `fault` is there for the tests only.
+//! twelve bytes, `board` keeps the items and decides the codes, `cells` says which
+//! seams between keep-outs are closed, `blocked` what blocks a pin, `route` picks
+//! one of the two searches (`unit`, `wide`), `sheet` prints. `drawn` judges wires
+//! drawn by hand. The other tools are `generate`, `tally` (with `reopened`), `text`
+//! and `draw`; `fault` is there for the tests, and for `reopened`.
 //! Another router's sheets are compared by `compare`, and `cases` makes a fixed
 //! file for it. Speed is measured by `question` (the file), `questions` (what is
 //! asked), `timing` and `sheet_timing`, beside the `peer`. `launch` starts other
@@ -17,6 +18,7 @@
 pub mod blocked;
 pub mod board;
 pub mod cases;
+pub mod cells;
 pub mod code;
 pub mod compare;
 pub mod draw;
@@ -32,6 +34,7 @@ pub mod peer;
 pub mod question;
 pub mod questions;
 pub mod record;
+pub mod reopened;
 pub mod rng;
 pub mod route;
 pub mod scratch;

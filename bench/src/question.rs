@@ -3,9 +3,12 @@
 //! Words are 16-bit little-endian. Word 0 is the number of questions, word 1
 //! how often all of them are asked (reps); then each question has 238 words:
 //! W, H, sx, sy, tx, ty, n, 0, then 46 rows of x0, y0, x1, y1, c, of which those
-//! from n on are 0. A row is a block: an area widened by c, as an open box.
+//! from n on are 0. A row is a block: an area widened by c, as an open box. Rows
+//! with c = 0 are keep-outs, between which seams are closed.
 
+use crate::cells::Cover;
 use crate::code::Code;
+use crate::fault::Fault;
 use crate::geometry::{Point, Rect};
 use crate::item::Frame;
 use crate::limits::{MAX_BLOCKS, MAX_RUNS};
@@ -39,10 +42,17 @@ impl Question {
     /// The second router's answer, a wire or code 12 or 13; `None` if a pin is
     /// off the board or blocked, or both are at one node.
     pub fn answer(&self) -> Option<Result<Wire, Code>> {
+        self.answer_with(Fault::None)
+    }
+
+    /// The answer with seams closed, or with the fault that leaves them open.
+    pub fn answer_with(&self, fault: Fault) -> Option<Result<Wire, Code>> {
         // The rows bring their own clearance, so the frame's says nothing here.
         let frame = Frame { w: self.w, h: self.h, clearance: 0 };
         let blocks = self.rows.iter().map(|row| row.area.widened(row.c)).collect();
-        let mut router = Router::over(blocks);
+        let keepouts = self.rows.iter().filter(|row| row.c == 0).map(|row| row.area);
+        let cover = fault.spoil_cover(Cover::new(&frame, keepouts));
+        let mut router = Router::over(blocks, cover);
         let asked = |p: Point| frame.holds(p) && !router.node_blocked(p);
         if !asked(self.s) || !asked(self.t) || self.s == self.t {
             return None;

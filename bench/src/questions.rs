@@ -6,6 +6,7 @@
 
 use crate::board::Board;
 use crate::code::Code;
+use crate::fault::Fault;
 use crate::geometry::{Point, Rect};
 use crate::item::{Frame, Item};
 use crate::limits::MAX_BLOCKS;
@@ -28,16 +29,19 @@ pub struct Kind {
     blocks: usize,
     /// Fewest runs of a wire that is kept.
     least_runs: usize,
+    /// Is only a question kept whose answer seams change?
+    of_seams: bool,
     board: fn(&mut Plan),
 }
 
-pub const KINDS: [Kind; 3] = [
+pub const KINDS: [Kind; 4] = [
     Kind {
         name: "mid",
         about: "200 x 200, 20 blocks",
         seed: 20,
         blocks: 20,
         least_runs: 7,
+        of_seams: false,
         board: mid,
     },
     Kind {
@@ -46,6 +50,7 @@ pub const KINDS: [Kind; 3] = [
         seed: 46,
         blocks: MAX_BLOCKS,
         least_runs: 8,
+        of_seams: false,
         board: large,
     },
     Kind {
@@ -54,7 +59,17 @@ pub const KINDS: [Kind; 3] = [
         seed: 24,
         blocks: MAX_BLOCKS,
         least_runs: 14,
+        of_seams: false,
         board: maze,
+    },
+    Kind {
+        name: "bricks",
+        about: "walls of keep-outs that share sides, 46 of them, passed above and below in turn",
+        seed: 3,
+        blocks: MAX_BLOCKS,
+        least_runs: 8,
+        of_seams: true,
+        board: bricks,
     },
 ];
 
@@ -69,7 +84,7 @@ impl Kind {
         while questions.len() < COUNT {
             let mut plan = Plan::new(rng.number(), self.blocks);
             (self.board)(&mut plan);
-            questions.extend(plan.question(self.least_runs));
+            questions.extend(plan.question(self));
         }
         questions
     }
@@ -102,6 +117,25 @@ fn maze(plan: &mut Plan) {
         plan.lay(Point::new(x, y0), Point::new(x, y1));
     }
     plan.fill(&Mix { keepouts: 100, thin: (2, 10), long: (4, 24) });
+}
+
+/// Walls of bricks that stand below and hang above in turn, so that the way along
+/// the middle goes up and down at every wall. Were seams open, it would lead right
+/// through the walls.
+fn bricks(plan: &mut Plan) {
+    let walls = plan.rng.range(10, 12);
+    let (half, pitch) = (plan.rng.range(6, 12), plan.rng.range(14, 24));
+    // Far enough from both edges that no way round is shorter.
+    let middle = half * walls + plan.rng.range(20, 40);
+    let count = plan.blocks as i32;
+    plan.bounds((walls + 1) * pitch, 2 * middle, 1);
+    for wall in 0..walls {
+        let x = wall * pitch + plan.rng.range(pitch / 2, pitch / 2 + 3);
+        let thick = plan.rng.range(4, pitch - 6);
+        let (y0, y1) = if wall % 2 == 0 { (0, middle + half) } else { (middle - half, 2 * middle) };
+        let bricks = (wall + 1) * count / walls - wall * count / walls;
+        plan.wall(Rect::new(x, y0, x + thick, y1), bricks);
+    }
 }
 
 /// What a board is filled with.
@@ -160,6 +194,24 @@ impl Plan {
         }
     }
 
+    /// A wall of so many bricks, one upon the other in one column or in two.
+    fn wall(&mut self, area: Rect, bricks: i32) {
+        let Rect { x0, y0, x1, y1 } = area;
+        let columns = self.rng.range(1, 2);
+        for column in 0..columns {
+            let x = |column: i32| x0 + column * (x1 - x0) / columns;
+            let high = (column + 1) * bricks / columns - column * bricks / columns;
+            let mut low = y0;
+            for brick in 1..=high {
+                let joint = y0 + brick * (y1 - y0) / high + self.rng.range(-2, 2);
+                let top = if brick == high { y1 } else { joint };
+                let rect = Rect::new(x(column), low, x(column + 1), top);
+                self.put(Record::Keepout { id: self.next_id, rect });
+                low = top;
+            }
+        }
+    }
+
     /// A rectangle on the board that lies or stands.
     fn rect(&mut self, mix: &Mix) -> Rect {
         let frame = self.frame();
@@ -177,7 +229,7 @@ impl Plan {
 
     /// The first question of those tried that is worth asking; in half of the
     /// cases with x and y swapped.
-    fn question(mut self, least_runs: usize) -> Option<Question> {
+    fn question(mut self, kind: &Kind) -> Option<Question> {
         if self.board.block_count() != self.blocks {
             return None;
         }
@@ -191,7 +243,10 @@ impl Plan {
             let plain = Question { w, h, s: pins.s, t: pins.t, rows: rows.clone() };
             let question = if turned { swapped(&plain) } else { plain };
             let wire = question.answer()?.ok()?;
-            (wire.detour() > 0 && wire.run_count() >= least_runs).then_some(question)
+            let winding = wire.detour() > 0 && wire.run_count() >= kind.least_runs;
+            let open = || question.answer_with(Fault::OpenSeams);
+            let kept = winding && (!kind.of_seams || open() != Some(Ok(wire)));
+            kept.then_some(question)
         })
     }
 

@@ -4,9 +4,10 @@
 //! blocks and the searches' maps are made anew from the items that stand, at
 //! the next search. So room that two blocks share cannot be freed by one.
 
+use crate::cells::Cover;
 use crate::fault::Fault;
 use crate::geometry::{Point, Rect};
-use crate::item::{Frame, Item};
+use crate::item::{Frame, Item, Sort};
 use crate::limits::UNIT_SEARCH_NODES;
 use crate::unit::UnitMap;
 use crate::wide::WideMap;
@@ -27,6 +28,8 @@ pub struct Router {
     method: Method,
     fault: Fault,
     blocks: Vec<Rect>,
+    /// What the keep-outs among the blocks cover.
+    cover: Cover,
     blocks_stale: bool,
     unit: UnitMap,
     unit_stale: bool,
@@ -48,6 +51,7 @@ impl Router {
             method,
             fault,
             blocks: Vec::new(),
+            cover: Cover::default(),
             blocks_stale: true,
             unit: UnitMap::default(),
             unit_stale: true,
@@ -56,9 +60,10 @@ impl Router {
         }
     }
 
-    /// A router that already knows its blocks, for a question without a board.
-    pub fn over(blocks: Vec<Rect>) -> Router {
-        Router { blocks, blocks_stale: false, ..Router::default() }
+    /// A router that already knows its blocks and what the keep-outs among them
+    /// cover, for a question without a board.
+    pub fn over(blocks: Vec<Rect>, cover: Cover) -> Router {
+        Router { blocks, cover, blocks_stale: false, ..Router::default() }
     }
 
     /// What a test has planted.
@@ -81,8 +86,11 @@ impl Router {
         self.note(frame, item, false);
     }
 
+    /// The fault that keeps marks does so for wires; a keep-out may open or close
+    /// seams, so then all marks are made anew.
     fn note(&mut self, frame: &Frame, item: &Item, blocked: bool) {
-        let keep_marks = self.fault == Fault::ClearedMarks && !self.unit_stale;
+        let keep_marks =
+            self.fault == Fault::ClearedMarks && !self.unit_stale && item.sort() == Sort::Wire;
         self.forget();
         if keep_marks {
             for block in item.blocks(frame, self.fault) {
@@ -92,19 +100,20 @@ impl Router {
         }
     }
 
-    /// Lists the blocks of the items, unless that was done since the last
-    /// change. The questions below need it.
-    pub fn prepare<'a>(&mut self, frame: &Frame, items: impl Iterator<Item = &'a Item>) {
+    /// Lists the blocks of the items and the cover of the keep-outs, unless that
+    /// was done since the last change. The questions below need it.
+    pub fn prepare<'a>(&mut self, frame: &Frame, items: impl Iterator<Item = &'a Item> + Clone) {
         if self.blocks_stale {
             let fault = self.fault;
+            self.cover = Cover::of(frame, items.clone(), fault);
             self.blocks = items.flat_map(|item| item.blocks(frame, fault)).collect();
             self.blocks_stale = false;
         }
     }
 
-    /// Does the node lie in the interior of a block?
+    /// Does the node lie in the interior of a block, or inside a seam?
     pub fn node_blocked(&self, p: Point) -> bool {
-        self.blocks.iter().any(|block| block.interior_holds(p))
+        self.blocks.iter().any(|block| block.interior_holds(p)) || self.cover.closes_node(p)
     }
 
     /// The answered wire between two different nodes that are not blocked.
@@ -116,13 +125,13 @@ impl Router {
         };
         if by_units {
             if self.unit_stale {
-                self.unit.lay_out(frame, &self.blocks);
+                self.unit.lay_out(frame, &self.blocks, &self.cover);
                 self.unit_stale = false;
             }
             self.unit.shortest(s, t)
         } else {
             if self.wide_stale {
-                self.wide.lay_out(frame, &self.blocks, self.fault);
+                self.wide.lay_out(frame, &self.blocks, &self.cover, self.fault);
                 self.wide_stale = false;
             }
             self.wide.shortest(s, t)

@@ -30,7 +30,7 @@ pub struct Kind {
     repeats: bool,
 }
 
-pub const KINDS: [Kind; 2] = [
+pub const KINDS: [Kind; 3] = [
     Kind {
         name: "mixed",
         about: "boards of every style, the same fifth of the file five times",
@@ -42,6 +42,12 @@ pub const KINDS: [Kind; 2] = [
         about: "one board near 46 blocks and 32 kept changes, for the whole file",
         seed: 46_032,
         repeats: false,
+    },
+    Kind {
+        name: "bricks",
+        about: "boards of keep-outs that share sides, the same fifth of the file five times",
+        seed: 3,
+        repeats: true,
     },
 ];
 

@@ -9,6 +9,7 @@ use crate::code::{Blocked, Code};
 use crate::item::Sort;
 use crate::limits::{MAX_RUNS, MAX_SIDE};
 use crate::record::Record;
+use crate::reopened::Reopened;
 use crate::sheet::{self, Last, Seen, Stopped};
 
 #[derive(Clone, Default)]
@@ -22,6 +23,11 @@ pub struct Tally {
     /// other wires block as well.
     pub in_both: usize,
     pub near_several: usize,
+    /// Lays and asks whose answer seams change, the asks among them, and keep-outs
+    /// that get 8 by a seam alone.
+    pub changed_by_seams: usize,
+    pub asks_changed: usize,
+    pub closing_seams: usize,
     /// Accepted lays and asks, and those among them with a detour.
     pub wires: usize,
     pub detours: usize,
@@ -42,8 +48,11 @@ impl Tally {
 
     /// Counts the records of a file while its sheet is printed.
     pub fn printing(input: impl Read, output: impl Write) -> Result<Tally, Stopped> {
-        let mut tally = Tally::default();
-        let last = sheet::print(input, output, Board::default(), |seen| tally.count(seen))?;
+        let (mut tally, mut reopened) = (Tally::default(), Reopened::default());
+        let last = sheet::print(input, output, Board::default(), |seen| {
+            tally.count(seen);
+            tally.count_seams(seen, &mut reopened);
+        })?;
         tally.cut = last == Last::Cut;
         Ok(tally)
     }
@@ -64,6 +73,19 @@ impl Tally {
         let widest = seen.board.frame().is_some_and(|f| f.w == MAX_SIDE && f.h == MAX_SIDE);
         if widest && matches!(record, Some(Record::Ask { .. })) {
             self.widest_asks += 1;
+        }
+    }
+
+    fn count_seams(&mut self, seen: &Seen, reopened: &mut Reopened) {
+        if reopened.answers_otherwise(seen) {
+            match seen.answer.code {
+                Code::MeetsWire => self.closing_seams += 1,
+                _ => {
+                    let ask = matches!(Record::read(seen.piece), Some(Record::Ask { .. }));
+                    self.changed_by_seams += 1;
+                    self.asks_changed += usize::from(ask);
+                }
+            }
         }
     }
 
@@ -90,6 +112,9 @@ impl Tally {
         sum(&mut self.runs, &other.runs);
         self.in_both += other.in_both;
         self.near_several += other.near_several;
+        self.changed_by_seams += other.changed_by_seams;
+        self.asks_changed += other.asks_changed;
+        self.closing_seams += other.closing_seams;
         self.wires += other.wires;
         self.detours += other.detours;
         self.widest_asks += other.widest_asks;
@@ -116,6 +141,7 @@ impl fmt::Display for Tally {
         let by_pin = |[first, second]: [usize; 2]| format!(", pin 1 {first}, pin 2 {second}");
         for number in Code::NUMBERS {
             let told = match number {
+                8 => format!(", by a seam alone {}", self.closing_seams),
                 11 => format!("{}, near a wire too {}", by_pin(self.in_keepout), self.in_both),
                 18 => format!("{}, near several {}", by_pin(self.near_wire), self.near_several),
                 _ => String::new(),
@@ -129,6 +155,13 @@ impl fmt::Display for Tally {
             share(self.wires, self.records()),
             self.detours,
             share(self.detours, self.wires)
+        )?;
+        writeln!(
+            f,
+            "answers that seams change: {}{}, to asks {}",
+            self.changed_by_seams,
+            share(self.changed_by_seams, self.records()),
+            self.asks_changed
         )?;
         writeln!(f, "asks on {MAX_SIDE} x {MAX_SIDE}: {}", self.widest_asks)?;
         for (runs, count) in self.runs.iter().enumerate().filter(|(_, count)| **count > 0) {

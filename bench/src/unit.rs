@@ -3,6 +3,7 @@
 //! comes nearer to t. That walk is shortest, and no shortest walk is spelled
 //! before it: at each node it takes the first letter any of them can have.
 
+use crate::cells::Cover;
 use crate::geometry::{Dir, Point, Rect};
 use crate::item::Frame;
 use crate::wire::{Spelling, Wire};
@@ -28,8 +29,9 @@ pub struct UnitMap {
 }
 
 impl UnitMap {
-    /// Marks the open steps of a board with these blocks.
-    pub fn lay_out(&mut self, frame: &Frame, blocks: &[Rect]) {
+    /// Marks the open steps of a board with these blocks, of which some are the
+    /// keep-outs that cover its cells.
+    pub fn lay_out(&mut self, frame: &Frame, blocks: &[Rect], cover: &Cover) {
         let nodes = usize::try_from(frame.nodes()).expect("a board's nodes can be counted");
         (self.w, self.h) = (frame.w, frame.h);
         self.open.clear();
@@ -43,6 +45,28 @@ impl UnitMap {
         self.set(self.h, 0, self.w, Dir::N, true);
         for &block in blocks {
             self.mark(block, true);
+        }
+        let cells = Cells::under(frame, cover.keepouts());
+        for &keepout in cover.keepouts() {
+            self.close_seams(keepout, &cells);
+        }
+    }
+
+    /// Blocks each unit edge that has a covered cell on both its sides: document
+    /// 02's order 3, edge by edge. Such an edge lies in a keep-out or on its sides,
+    /// so no others are looked at.
+    fn close_seams(&mut self, keepout: Rect, cells: &Cells) {
+        for y in keepout.y0..=keepout.y1 {
+            for x in keepout.x0..=keepout.x1 {
+                if cells.covered(x, y - 1) && cells.covered(x, y) {
+                    self.set(y, x, x, Dir::E, true);
+                    self.set(y, x + 1, x + 1, Dir::W, true);
+                }
+                if cells.covered(x - 1, y) && cells.covered(x, y) {
+                    self.set(y, x, x, Dir::N, true);
+                    self.set(y + 1, x, x, Dir::S, true);
+                }
+            }
         }
     }
 
@@ -144,5 +168,35 @@ impl UnitMap {
             let (dx, dy) = dir.delta();
             (dir, (dy as isize) * (self.w as isize + 1) + dx as isize)
         })
+    }
+}
+
+/// Which cells of a board lie in keep-outs, row by row, with a rim of cells off
+/// the board round them, which lie in none.
+struct Cells {
+    row: usize,
+    covered: Vec<bool>,
+}
+
+impl Cells {
+    fn under(frame: &Frame, keepouts: &[Rect]) -> Cells {
+        let (row, rows) = (frame.w as usize + 2, frame.h as usize + 2);
+        let mut cells = Cells { row, covered: vec![false; row * rows] };
+        for keepout in keepouts {
+            for y in keepout.y0..keepout.y1 {
+                let (from, to) = (cells.index(keepout.x0, y), cells.index(keepout.x1, y));
+                cells.covered[from..to].fill(true);
+            }
+        }
+        cells
+    }
+
+    /// Does the cell with this lower left corner lie in a keep-out?
+    fn covered(&self, x: i32, y: i32) -> bool {
+        self.covered[self.index(x, y)]
+    }
+
+    fn index(&self, x: i32, y: i32) -> usize {
+        (y + 1) as usize * self.row + (x + 1) as usize
     }
 }

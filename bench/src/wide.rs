@@ -12,6 +12,12 @@
 //!   a row is in the way in the slabs beside it too, so the rims of a slab's
 //!   room are free, and that room lies against exactly one room of the row
 //!   below and one of the row above. Those pairs are the doors.
+//! * Seams. Whether a cell is covered is the same for all cells between two
+//!   neighbouring cuts in x and in y, so one cell on either side tells whether
+//!   an edge from cut to cut is closed. Closed edges of a row forbid open
+//!   intervals as blocks do; they have keep-outs above and below, so they too
+//!   are in the way in the slabs beside the row. In a slab only a room without
+//!   width can lie between covered cells, and it goes if it does.
 //! * Walks. An unblocked unit edge lies in one room: an edge along x in the
 //!   room of its row or slab, an edge along y in a slab's room. Where a walk
 //!   changes rooms it does so through doors, at one node. Inside a room every
@@ -34,6 +40,7 @@ use std::cmp::Reverse;
 use std::collections::BinaryHeap;
 use std::ops::Range;
 
+use crate::cells::Cover;
 use crate::fault::Fault;
 use crate::geometry::{Dir, Point, Rect};
 use crate::item::Frame;
@@ -73,8 +80,9 @@ pub struct WideMap {
 }
 
 impl WideMap {
-    /// Cuts the free part of a board with these blocks into rooms.
-    pub fn lay_out(&mut self, frame: &Frame, blocks: &[Rect], fault: Fault) {
+    /// Cuts the free part of a board with these blocks into rooms; some of the
+    /// blocks are the keep-outs that cover its cells.
+    pub fn lay_out(&mut self, frame: &Frame, blocks: &[Rect], cover: &Cover, fault: Fault) {
         let cutting = fault.cutting(blocks);
         self.ys = cuts(frame.h, cutting.iter().flat_map(|block| [block.y0, block.y1]));
         self.xs = cuts(frame.w, blocks.iter().flat_map(|block| [block.x0, block.x1]));
@@ -82,9 +90,9 @@ impl WideMap {
         self.rooms.clear();
         for i in 0..self.ys.len() {
             let y = self.ys[i];
-            self.add_band(frame, blocks, y, y);
+            self.add_row(frame, blocks, cover, y);
             if let Some(&above) = self.ys.get(i + 1) {
-                self.add_band(frame, blocks, y, above);
+                self.add_slab(frame, blocks, cover, y, above);
             }
         }
         for slab in (1..self.bands.len()).step_by(2) {
@@ -93,16 +101,30 @@ impl WideMap {
         }
     }
 
-    /// Adds the rooms of the row y0 = y1, or of the slab between two rows.
-    fn add_band(&mut self, frame: &Frame, blocks: &[Rect], y0: i32, y1: i32) {
-        let mut spans: Vec<(i32, i32)> = blocks
-            .iter()
-            .filter(|block| block.y0 < y1 && y0 < block.y1)
-            .map(|block| (block.x0, block.x1))
-            .collect();
+    /// Adds the rooms of a row: what neither blocks nor closed edges forbid.
+    fn add_row(&mut self, frame: &Frame, blocks: &[Rect], cover: &Cover, y: i32) {
+        let mut spans = in_the_way(blocks, y, y);
+        // Only keep-outs that touch the row have cells beside it.
+        let near = cover.keepouts().iter().filter(|keepout| keepout.y0 <= y && y <= keepout.y1);
+        let near = Cover::new(frame, near.copied());
+        let edges = self.xs.windows(2).map(|ends| (ends[0], ends[1]));
+        spans.extend(edges.filter(|&(x, _)| near.closes_east(Point::new(x, y))));
         spans.sort_unstable();
+        self.add_band(y, y, gaps(frame.w, &spans));
+    }
+
+    /// Adds the rooms of the slab between two rows.
+    fn add_slab(&mut self, frame: &Frame, blocks: &[Rect], cover: &Cover, y0: i32, y1: i32) {
+        let mut spans = in_the_way(blocks, y0, y1);
+        spans.sort_unstable();
+        let mut free = gaps(frame.w, &spans);
+        free.retain(|&(x0, x1)| x0 < x1 || !cover.closes_north(Point::new(x0, y0)));
+        self.add_band(y0, y1, free);
+    }
+
+    /// Adds a room for each interval of x.
+    fn add_band(&mut self, y0: i32, y1: i32, free: Vec<(i32, i32)>) {
         let first = self.rooms.len();
-        let free = gaps(frame.w, &spans);
         self.rooms.extend(free.into_iter().map(|(x0, x1)| Room {
             rect: Rect::new(x0, y0, x1, y1),
             doors: Vec::new(),
@@ -248,6 +270,13 @@ fn cuts(last: i32, sides: impl Iterator<Item = i32>) -> Vec<i32> {
     cuts.sort_unstable();
     cuts.dedup();
     cuts
+}
+
+/// The open spans of x that blocks forbid on the row y0 = y1, or in the slab
+/// between two rows.
+fn in_the_way(blocks: &[Rect], y0: i32, y1: i32) -> Vec<(i32, i32)> {
+    let there = blocks.iter().filter(|block| block.y0 < y1 && y0 < block.y1);
+    there.map(|block| (block.x0, block.x1)).collect()
 }
 
 /// What the open spans, sorted by their beginnings, leave of 0..=last. Spans

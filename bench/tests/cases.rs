@@ -24,6 +24,7 @@ fn they_reach_what_a_file_can_reach() {
         assert!(*count >= 1, "{runs} runs came {count} times\n{tally}");
     }
     assert!(tally.widest_asks >= 3_000, "{tally}");
+    assert!(tally.changed_by_seams >= 700 && tally.closing_seams >= 40, "{tally}");
     assert!(3 * tally.wires >= tally.records(), "{tally}");
     assert!(4 * tally.detours >= tally.wires, "{tally}");
     assert!(sheet.ends_with(b"\nend\n"));
@@ -36,11 +37,11 @@ fn they_begin_before_bounds_and_end_short() {
     assert_ne!(records().len() % RECORD_BYTES, 0);
 }
 
-/// Each wrong reading of document 02's order 2 would be seen.
+/// Each wrong reading of document 02's order 2 would be seen, and order 3 left out.
 #[test]
-fn they_show_what_is_told_of_blocked_pins() {
+fn they_show_what_is_told_of_blocked_pins_and_seams() {
     let records = records();
-    for fault in Fault::OF_PINS {
+    for fault in Fault::OF_PINS.into_iter().chain([Fault::OpenSeams]) {
         let (mut sound, router) = (Board::default(), Router::new(Method::BySize, fault));
         let mut faulty = Board::with_router(router);
         let mut pieces = records.chunks(RECORD_BYTES);

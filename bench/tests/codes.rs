@@ -248,7 +248,8 @@ fn code_18_comes_before_code_12() {
 }
 
 /// A node that lies in no interior although every edge at it is blocked: the
-/// answer is "no legal wire", not "a pin on a blocked node".
+/// answer is "no legal wire", not "a pin on a blocked node". West of (5,5) is the
+/// keep-out, all else round it are boxes, and a seam beside a box is free.
 #[test]
 fn a_node_between_blocks_is_not_blocked() {
     let base = [
@@ -256,12 +257,12 @@ fn a_node_between_blocks_is_not_blocked() {
         lay(1, 0, 3, 10, 3),
         lay(2, 0, 7, 10, 7),
         keepout(3, 2, 4, 5, 6),
-        keepout(4, 5, 4, 8, 6),
+        lay(4, 7, 5, 8, 5),
     ];
     for pins in [ask(5, 5, 1, 5), ask(1, 5, 5, 5)] {
         assert_eq!(codes(&[&base[..], &[pins]].concat()), [0, 0, 0, 0, 0, 12]);
     }
-    // Along y = 5, beside the keep-outs, the room between the boxes is open.
+    // Along y = 5, beside the keep-out, the room between the boxes is open.
     assert_eq!(last_answer(&[&base[..], &[ask(0, 5, 2, 5)]].concat()), "0 2 0 0:5 2:5");
 }
 

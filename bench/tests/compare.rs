@@ -54,6 +54,7 @@ fn a_sound_program_passes() {
     let told = text(&output.stdout);
     assert!(told.contains(", no difference\nrecords 20000\n"), "{told}");
     assert!(told.contains("\ncode 15: ") && told.contains("\nasks on 30000 x 30000: "), "{told}");
+    assert!(told.contains("\nanswers that seams change: "), "{told}");
     assert_eq!(output.status.code(), Some(0));
 }
 
@@ -163,9 +164,10 @@ fn a_missing_program_is_told() {
     assert_eq!(output.status.code(), Some(1));
 }
 
-/// The default of half a million records holds each code a thousand times, and
-/// 11 and 18 two thousand times with either pin. Here a tenth of it is counted;
-/// the two longest files, which are not in it, have fewer blocked pins.
+/// The default of half a million records holds each code a thousand times, 11 and
+/// 18 two thousand times with either pin, 20,000 answers that seams change and 500
+/// times 8 by a seam alone. Here a tenth of it is counted; the two longest files,
+/// which are not in it, have fewer blocked pins and seams.
 #[test]
 fn the_mix_of_files_reaches_enough() {
     let records = 50_000;
@@ -184,6 +186,7 @@ fn the_mix_of_files_reaches_enough() {
         assert!(count >= 300, "few blocked pins\n{all}");
     }
     assert!(all.in_both >= 300 && all.near_several >= 150, "{all}");
+    assert!(all.changed_by_seams >= 2_700 && all.closing_seams >= 150, "{all}");
 }
 
 #[test]

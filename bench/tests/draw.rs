@@ -53,9 +53,25 @@ fn every_item_is_drawn() {
     // Each once more in the legend.
     let count = |what: &str| svg.matches(what).count();
     assert_eq!(count("class=\"keepout\""), 2 + 1);
+    assert_eq!(count("class=\"rim\""), 2 + 1);
     assert_eq!(count("class=\"wire\""), 1 + 1);
     assert_eq!(count("class=\"last\""), 1 + 1);
     assert_eq!(count("class=\"box\""), 1 + 1);
+}
+
+/// A closed seam has no line: every rim is drawn before every area.
+#[test]
+fn a_seam_is_covered() {
+    let svg = svg(&[bounds(10, 10, 1), keepout(1, 2, 2, 5, 8), keepout(2, 5, 2, 8, 8)]);
+    // The last of either is in the legend.
+    let places = |what: &str| {
+        let mut places: Vec<usize> = svg.match_indices(what).map(|(at, _)| at).collect();
+        places.pop();
+        places
+    };
+    let (rims, areas) = (places("class=\"rim\""), places("class=\"keepout\""));
+    assert_eq!((rims.len(), areas.len()), (2, 2));
+    assert!(rims[1] < areas[0]);
 }
 
 #[test]

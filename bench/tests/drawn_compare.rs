@@ -122,6 +122,7 @@ fn the_mix_of_files_reaches_enough() {
     }
     assert!(all.longer >= 2_000 && all.of(Finding::Legal) - all.longer >= 2_000, "{all}");
     assert!(all.winding_longer >= 200, "{all}");
+    assert!(all.changed_by_seams >= 400 && all.along_seams >= 200, "{all}");
     assert!(all.self_touching >= 300 && all.beside_blocks >= 1_000, "{all}");
     assert!(all.widest >= 300, "{all}");
     for (runs, count) in all.runs.iter().enumerate().skip(1) {

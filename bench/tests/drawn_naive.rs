@@ -27,6 +27,7 @@ fn cases() -> &'static [Case] {
         for (style, files, wires) in [
             ("small", 800, 60),
             ("flush", 150, 60),
+            ("bricks", 100, 60),
             ("broken", 60, 20),
             ("winding", 100, 20),
             ("maze", 60, 40),
@@ -79,6 +80,8 @@ fn faults_of_the_router_are_noticed() {
         (Method::Unit, Fault::InteriorNodes),
         (Method::Unit, Fault::ClearedMarks),
         (Method::Wide, Fault::OuterSides),
+        (Method::Unit, Fault::OpenSeams),
+        (Method::Wide, Fault::OpenSeams),
     ] {
         let noticed = first_difference(method, fault, Slip::None);
         assert!(noticed.is_some(), "{fault:?} went unnoticed");

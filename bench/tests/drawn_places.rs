@@ -57,13 +57,66 @@ fn keep_outs_block_their_interior_only() {
     }
 }
 
-/// Table P's P11: between two keep-outs that share a side there is a way.
+/// Table P's P11, as document 02's order 3 has it: between two keep-outs that share
+/// a side there is no way. The seam goes from (5,2) to (5,8).
 #[test]
-fn a_seam_is_free() {
+fn a_seam_is_closed() {
     let board = [bounds(10, 10, 1), keepout(1, 2, 2, 5, 8), keepout(2, 5, 2, 8, 8)];
-    assert_eq!(verdict(&board, &[5, 0, 5, 10]), "0 0");
-    assert_eq!(verdict(&board, &[5, 0, 8, 0, 8, 10, 5, 10]), "0 6");
-    assert_eq!(verdict(&board, &[5, 4, 6, 4]), "20 1");
+    for (wire, said) in [
+        // Along the whole seam and past its ends, one unit of it at either end,
+        // and a piece of it; in any run.
+        (&[5, 0, 5, 10][..], "20 1"),
+        (&[5, 0, 5, 3], "20 1"),
+        (&[5, 10, 5, 7], "20 1"),
+        (&[5, 4, 5, 6], "20 1"),
+        (&[0, 0, 5, 0, 5, 10], "20 2"),
+        (&[0, 0, 0, 2, 5, 2, 5, 3], "20 3"),
+        // Up to its end nodes, and over them along the keep-outs' other sides.
+        (&[5, 0, 5, 2], "0 0"),
+        (&[5, 10, 5, 8, 0, 8], "0 0"),
+        (&[0, 2, 10, 2], "0 0"),
+        // Round it, now the shortest way.
+        (&[5, 0, 8, 0, 8, 10, 5, 10], "0 0"),
+        (&[5, 0, 9, 0, 9, 10, 5, 10], "0 2"),
+        // Into an interior from it.
+        (&[5, 4, 6, 4], "20 1"),
+    ] {
+        assert_eq!(verdict(&board, wire), said, "{wire:?}");
+    }
+}
+
+/// Sides that overlap in part, from (5,4) to (5,8), and a gap in the wall above.
+#[test]
+fn only_what_two_keep_outs_share_is_closed() {
+    let board = [
+        bounds(10, 20, 1),
+        keepout(9, 2, 2, 5, 8),
+        keepout(4, 5, 4, 8, 10),
+        keepout(6, 2, 12, 5, 14),
+        keepout(5, 6, 12, 8, 14),
+    ];
+    for (wire, said) in [
+        (&[5, 0, 5, 4][..], "0 0"),
+        (&[5, 0, 5, 5], "20 1"),
+        (&[5, 20, 5, 8], "0 0"),
+        (&[5, 20, 5, 7], "20 1"),
+        (&[2, 8, 5, 8, 5, 10, 8, 10], "0 0"),
+        (&[2, 8, 5, 8, 5, 5, 8, 5], "20 2"),
+    ] {
+        assert_eq!(verdict(&board, wire), said, "{wire:?}");
+    }
+}
+
+/// Of one run 9 goes before 20 and 20 before 24, also where 20 is by a seam: wire 3
+/// along x = 8 is 3 away from the seam, which is nearer than the clearance of 4.
+#[test]
+fn a_seam_in_the_order_of_codes() {
+    let board =
+        [bounds(12, 10, 4), keepout(1, 2, 2, 5, 8), keepout(2, 5, 2, 8, 8), lay(3, 8, 0, 8, 10)];
+    assert_eq!(verdict(&board, &[5, 3, 5, 11]), "9 1");
+    assert_eq!(verdict(&board, &[5, 3, 5, 7]), "20 1");
+    assert_eq!(verdict(&board, &[5, 0, 5, 2]), "24 1");
+    assert_eq!(verdict(&board, &[4, 0, 4, 2, 5, 2, 5, 4]), "24 2");
 }
 
 /// A wire along y = 10 from x = 10 to 20, clearance 3.

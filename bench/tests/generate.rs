@@ -50,6 +50,18 @@ fn pins_are_blocked_in_every_way() {
     assert!(30 * tally.near_several >= tally.records(), "{tally}");
 }
 
+/// Asks and lays that seams change, pins on seams, and keep-outs that would close
+/// one over a wire.
+#[test]
+fn bricks_reach_seams() {
+    let tally = tally(Style::named("bricks").expect("a style"), 0..6);
+    assert!(3 * tally.changed_by_seams >= tally.records(), "{tally}");
+    assert!(50 * tally.closing_seams >= tally.records(), "{tally}");
+    for count in tally.in_keepout {
+        assert!(100 * count >= tally.records(), "{tally}");
+    }
+}
+
 #[test]
 fn a_seed_always_gives_the_same_file() {
     for style in &STYLES {

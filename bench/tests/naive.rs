@@ -28,6 +28,7 @@ fn cases() -> &'static [Case] {
             ("broken", 200, 100),
             ("maze", 60, 60),
             ("pins", 100, 100),
+            ("bricks", 300, 100),
         ] {
             let style = Style::named(style).expect("a style of the generator");
             for seed in 0..files {
@@ -63,6 +64,8 @@ fn planted_faults_are_noticed() {
         (Method::Unit, Fault::InteriorNodes),
         (Method::Wide, Fault::InteriorNodes),
         (Method::Unit, Fault::ClearedMarks),
+        (Method::Unit, Fault::OpenSeams),
+        (Method::Wide, Fault::OpenSeams),
     ] {
         assert!(first_difference(method, fault).is_some(), "{method:?} {fault:?} went unnoticed");
     }

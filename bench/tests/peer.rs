@@ -9,6 +9,7 @@ use std::sync::OnceLock;
 use std::time::Duration;
 
 use bench::code::Code;
+use bench::fault::Fault;
 use bench::geometry::{Point, Rect};
 use bench::peer::{bench_folder, Peer};
 use bench::question::{average_runs, checksum, file, read, Question, Row};
@@ -55,6 +56,30 @@ fn tiny(rng: &mut Rng) -> Question {
     Question { w, h, s: pin(), t: pin(), rows }
 }
 
+/// A tiny board with keep-outs that share sides, at most one to a cell of a coarse
+/// grid, and pins anywhere.
+fn bricked(rng: &mut Rng) -> Question {
+    let (xs, ys) = (cuts(rng), cuts(rng));
+    let (w, h) = (xs[3] + rng.range(0, 2), ys[3] + rng.range(0, 2));
+    let places = (0..9).filter(|_| rng.chance(75)).collect::<Vec<usize>>();
+    let row = |place: &usize| {
+        let (x, y) = (place % 3, place / 3);
+        Row { area: Rect::new(xs[x], ys[y], xs[x + 1], ys[y + 1]), c: 0 }
+    };
+    let rows = places.iter().map(row).collect();
+    let mut pin = || Point::new(rng.range(0, w), rng.range(0, h));
+    Question { w, h, s: pin(), t: pin(), rows }
+}
+
+/// Four rising coordinates.
+fn cuts(rng: &mut Rng) -> [i32; 4] {
+    let mut at = rng.range(-3, 0);
+    std::array::from_fn(|_| {
+        at = at.max(-1) + rng.range(1, 3);
+        at
+    })
+}
+
 /// Walls that are passed above and below in turn, in two runs each.
 fn comb(walls: i32) -> Question {
     let row = |wall: i32| {
@@ -73,6 +98,7 @@ fn odd_files() -> &'static [Vec<Question>] {
         let mut rng = Rng::new(1);
         let mut files: Vec<Vec<Question>> =
             (0..60).map(|_| (0..130).map(|_| tiny(&mut rng)).collect()).collect();
+        files.extend((0..20).map(|_| (0..130).map(|_| bricked(&mut rng)).collect()));
         files.push((1..40).map(comb).collect());
         files
     })
@@ -88,7 +114,7 @@ fn the_files_are_those_of_the_seeds() {
 
 #[test]
 fn the_files_are_worth_asking() {
-    for (name, blocks) in [("mid", 20), ("large", 46), ("maze", 46)] {
+    for (name, blocks) in [("mid", 20), ("large", 46), ("maze", 46), ("bricks", 46)] {
         let questions = questions_of(name);
         assert!((20..=40).contains(&questions.len()), "{name}");
         assert!(average_runs(&questions) >= 8.0, "{name}");
@@ -100,7 +126,10 @@ fn the_files_are_worth_asking() {
                 row.c > 0 && (row.area.x0 == row.area.x1) != (row.area.y0 == row.area.y1)
             };
             assert!(question.rows.iter().all(|row| keepout(row) || run(row)), "{name}");
-            assert!(question.rows.iter().any(keepout) && question.rows.iter().any(run), "{name}");
+            let runs = question.rows.iter().filter(|row| run(row)).count();
+            assert!(runs < blocks && (runs > 0) == (name != "bricks"), "{name}");
+            let open = question.answer_with(Fault::OpenSeams).expect("good pins");
+            assert!(name != "bricks" || open != Ok(wire), "a seam must matter");
         }
     }
 }
@@ -149,6 +178,10 @@ fn planted_differences_are_noticed() {
         ("trimmed", "int left = b->x0 - b->c,", "int left = b->x0 < b->c ? 0 : b->x0 - b->c,"),
         ("corners", "MAX_CORNERS = 25", "MAX_CORNERS = 24"),
         ("unreached", "FAR_BYTE 0x7f", "FAR_BYTE 0xff"),
+        ("seams", "    close_seams(q);\n", ""),
+        ("seam-pins", "return held == 15 &&", "return 0 &&"),
+        ("seam-edge", "return held == 15 && x < q->w && y < q->h;", "return held == 15;"),
+        ("seam-areas", "b->c == 0 && b->x0 < b->x1 && b->y0 < b->y1", "b->c == 0"),
     ] {
         let program = spoiled(name, piece, by);
         assert!(odd_files().iter().any(|file| !agrees(&program, file)), "{name} went unnoticed");

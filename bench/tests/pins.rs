@@ -201,10 +201,16 @@ fn wrong_readings_show() {
     }
 }
 
-/// The example says after each record what must be printed, worked by hand.
+/// The examples say after each record what must be printed, worked by hand.
 #[test]
-fn the_example_is_printed_as_it_says() {
-    let path = bench_folder().with_file_name("examples").join("pins.txt");
+fn the_examples_are_printed_as_they_say() {
+    for name in ["pins.txt", "relay.txt"] {
+        assert_printed_as_it_says(name);
+    }
+}
+
+fn assert_printed_as_it_says(name: &str) {
+    let path = bench_folder().with_file_name("examples").join(name);
     let example = fs::read_to_string(path).expect("the example");
     let records = example.lines().filter(|line| !line.is_empty() && !line.starts_with('#'));
     let said = |line: &str| {
@@ -212,5 +218,5 @@ fn the_example_is_printed_as_it_says() {
         comment.split(": ").next().expect("a line").to_string() + "\n"
     };
     let expected: String = records.map(said).collect::<String>() + "end\n";
-    assert_eq!(sheet(&pack(example.as_bytes()).expect("it packs")), expected);
+    assert_eq!(sheet(&pack(example.as_bytes()).expect("it packs")), expected, "{name}");
 }

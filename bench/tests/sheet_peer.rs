@@ -72,7 +72,11 @@ fn timed() -> &'static [Vec<u8>] {
         let part = MAX_RECORDS / 5;
         let first = |file: &[u8]| file[..part * RECORD_BYTES].to_vec();
         // The longer file of `long` begins with the shorter one.
-        vec![first(&KINDS[0].file(MAX_RECORDS)), first(&KINDS[1].file(part))]
+        vec![
+            first(&KINDS[0].file(MAX_RECORDS)),
+            first(&KINDS[1].file(part)),
+            first(&KINDS[2].file(MAX_RECORDS)),
+        ]
     })
 }
 
@@ -82,7 +86,11 @@ fn planted_differences_are_noticed() {
         ("sheet-order", "ORDER[4] = {E, N, W, S}", "ORDER[4] = {N, E, W, S}"),
         ("sheet-kept", "MAX_KEPT = 32", "MAX_KEPT = 31"),
         ("sheet-undo", "if (kept_count == 0)", "if (kept_count <= 1)"),
-        ("sheet-checks", "if (meets(&area, 1))", "if (0)"),
+        ("sheet-checks", "meets(&area, 1) ||", "0 ||"),
+        ("sheet-closing", "|| closes_over_wire(&area)", ""),
+        ("sheet-seams", "    close_seams(q);\n", ""),
+        ("sheet-round", "return held == 15 &&", "return 0 &&"),
+        ("sheet-corner", "= held == 15;", "= held >= 7;"),
         (
             "sheet-blocks",
             "> MAX_BLOCKS)\n        return TOO",
@@ -119,7 +127,7 @@ fn shares(file: &[u8]) -> [usize; 2] {
 
 #[test]
 fn the_timed_boards_are_often_full() {
-    for (file, least) in timed().iter().zip([[25, 25], [60, 75]]) {
+    for (file, least) in timed().iter().zip([[25, 25], [60, 75], [0, 25]]) {
         let shares = shares(file);
         assert!(shares[0] >= least[0] && shares[1] >= least[1], "{shares:?}, {least:?}");
     }

@@ -1,6 +1,6 @@
 //! Document 01's Table P, line by line, and its four ways astray. The expected
 //! answers are the document's own; where it says 11, document 02's order 2 says
-//! the rest.
+//! the rest, and P11 is as its order 3 has it.
 
 mod common;
 
@@ -87,7 +87,12 @@ fn p10() {
 #[test]
 fn p11() {
     let (left, right) = (keepout(1, 2, 2, 5, 8), keepout(2, 5, 2, 8, 8));
-    assert_eq!(answer(&[board(1), left, right, ask(5, 0, 5, 10)]), "0 10 0 5:0 5:10");
+    let records = [board(1), left, right, ask(5, 0, 5, 10)];
+    assert_eq!(answer(&records), "0 16 3 5:0 8:0 8:10 5:10");
+    // As document 01 had it before seams were closed.
+    for method in [Method::Unit, Method::Wide] {
+        assert_eq!(answers_by(&records, method, Fault::OpenSeams)[3], "0 10 0 5:0 5:10");
+    }
 }
 
 #[test]

@@ -2,21 +2,25 @@
 
 mod common;
 
+use bench::cells::Cover;
 use bench::fault::Fault;
 use bench::generate::Style;
 use bench::geometry::{Point, Rect};
 use bench::item::Frame;
-use bench::limits::MAX_BLOCKS;
+use bench::limits::{MAX_BLOCKS, RECORD_BYTES};
+use bench::record::Record;
 use bench::rng::Rng;
 use bench::route::Method;
 use bench::unit::UnitMap;
 use bench::wide::WideMap;
 use common::sheet_by;
 
-/// A board as the searches see it, with pairs of pins on free nodes.
+/// A board as the searches see it, with pairs of pins on free nodes. Some of the
+/// blocks, none of which overlap, are its keep-outs.
 struct Scene {
     frame: Frame,
     blocks: Vec<Rect>,
+    keepouts: Vec<Rect>,
     pins: Vec<(Point, Point)>,
 }
 
@@ -68,42 +72,60 @@ impl Scene {
                 Rect::new(x0, y0, x1, y1)
             })
             .collect();
+        let frame = Frame { w, h, clearance: 1 };
+        let keepouts = some_apart(rng, &frame, &blocks);
+        let cover = Cover::new(&frame, keepouts.iter().copied());
         let mut free = Vec::new();
         for _ in 0..60 {
             let p = Point::new(side(rng, w, &xs).clamp(0, w), side(rng, h, &ys).clamp(0, h));
-            if !blocks.iter().any(|block| block.interior_holds(p)) {
+            if !blocks.iter().any(|block| block.interior_holds(p)) && !cover.closes_node(p) {
                 free.push(p);
             }
         }
         let pairs = free.chunks_exact(2).map(|pair| (pair[0], pair[1]));
         let pins = pairs.filter(|(s, t)| s != t).take(4).collect();
-        Scene { frame: Frame { w, h, clearance: 1 }, blocks, pins }
+        Scene { frame, blocks, keepouts, pins }
     }
 }
 
-/// How often the two searches were asked, and how often a wire was found with
-/// and without a detour.
+/// Some of the blocks that lie on the board, no two of which overlap.
+fn some_apart(rng: &mut Rng, frame: &Frame, blocks: &[Rect]) -> Vec<Rect> {
+    let mut some: Vec<Rect> = Vec::new();
+    for block in blocks.iter().filter(|block| block.common(frame.rect()) == **block) {
+        if rng.chance(80) && !some.iter().any(|other| other.interior_meets(*block)) {
+            some.push(*block);
+        }
+    }
+    some
+}
+
+/// How often the two searches were asked, how often a wire was found with and
+/// without a detour, and how often on a board with seams.
 #[derive(Default, Debug)]
 struct Counts {
     asked: usize,
     straight: usize,
     detours: usize,
+    with_seams: usize,
 }
 
-/// Compares the two searches on random boards.
+/// Compares the two searches on random boards; the fault is the wide search's.
 fn compare(look: Look, fault: Fault) -> Result<Counts, String> {
     let mut counts = Counts::default();
     let (mut unit, mut wide) = (UnitMap::default(), WideMap::default());
     for seed in 0..look.boards {
         let scene = Scene::random(&mut Rng::new(seed), look);
-        unit.lay_out(&scene.frame, &scene.blocks);
-        wide.lay_out(&scene.frame, &scene.blocks, fault);
+        let cover = Cover::new(&scene.frame, scene.keepouts.iter().copied());
+        let seams = cover.seams().count();
+        unit.lay_out(&scene.frame, &scene.blocks, &cover);
+        wide.lay_out(&scene.frame, &scene.blocks, &fault.spoil_cover(cover), fault);
         for &(s, t) in &scene.pins {
             let (by_unit, by_wide) = (unit.shortest(s, t), wide.shortest(s, t));
             if by_unit != by_wide {
                 return Err(format!("board {seed}, {s:?} to {t:?}: {by_unit:?}, {by_wide:?}"));
             }
             counts.asked += 1;
+            counts.with_seams += usize::from(seams > 0);
             match by_unit.map(|wire| wire.detour()) {
                 Some(0) => counts.straight += 1,
                 Some(_) => counts.detours += 1,
@@ -122,8 +144,9 @@ const STRIP: Look = Look { w: (30_000, 30_000), h: (20, 120), boards: 30 };
 
 fn assert_agreement(look: Look, least: usize) {
     let counts = compare(look, Fault::None).unwrap_or_else(|difference| panic!("{difference}"));
-    let Counts { asked, straight, detours } = counts;
+    let Counts { asked, straight, detours, with_seams } = counts;
     assert!(straight > least && detours > least && asked > straight + detours, "{counts:?}");
+    assert!(with_seams > least, "{counts:?}");
 }
 
 #[test]
@@ -154,6 +177,13 @@ fn a_search_without_the_inner_sides_is_noticed() {
     }
 }
 
+#[test]
+fn a_search_that_leaves_seams_open_is_noticed() {
+    for look in [SMALL, MIDDLE, WIDE] {
+        assert!(compare(look, Fault::OpenSeams).is_err());
+    }
+}
+
 /// Drawn larger by a whole factor, a board has the same wires, drawn larger:
 /// in the larger board a run between two multiples of the factor can always be
 /// pushed onto one of them without becoming longer or later in the order,
@@ -172,8 +202,10 @@ fn compare_enlarged(fault: Fault) -> Result<(), String> {
             Rect::new(factor * x0, factor * y0, factor * x1, factor * y1)
         };
         let blocks: Vec<Rect> = scene.blocks.iter().map(enlarge).collect();
-        unit.lay_out(&scene.frame, &scene.blocks);
-        wide.lay_out(&large, &blocks, fault);
+        let cover = Cover::new(&scene.frame, scene.keepouts.iter().copied());
+        let large_cover = Cover::new(&large, scene.keepouts.iter().map(enlarge));
+        unit.lay_out(&scene.frame, &scene.blocks, &cover);
+        wide.lay_out(&large, &blocks, &fault.spoil_cover(large_cover), fault);
         let point = |p: &Point| Point::new(factor * p.x, factor * p.y);
         for (s, t) in &scene.pins {
             let small: Option<Vec<Point>> =
@@ -191,17 +223,33 @@ fn compare_enlarged(fault: Fault) -> Result<(), String> {
 fn enlarged_boards_agree() {
     assert_eq!(compare_enlarged(Fault::None), Ok(()));
     assert!(compare_enlarged(Fault::OuterSides).is_err());
+    assert!(compare_enlarged(Fault::OpenSeams).is_err());
+}
+
+/// Does a record leave the board small enough for the unit search to be quick?
+fn is_for_both(record: &[u8]) -> bool {
+    match Record::read(record) {
+        Some(Record::Bounds { w, h, .. }) => w.saturating_mul(h) <= 50_000,
+        _ => true,
+    }
 }
 
 /// Whole files, so that wires with their boxes come in too.
 #[test]
 fn files_agree() {
-    for (style, files, records) in
-        [("small", 300, 200), ("flush", 100, 200), ("maze", 100, 200), ("history", 4, 1_500)]
-    {
+    for (style, files, records) in [
+        ("small", 300, 200),
+        ("flush", 100, 200),
+        ("maze", 100, 200),
+        ("history", 4, 1_500),
+        ("bricks", 300, 200),
+    ] {
         let style = Style::named(style).expect("a style of the generator");
         for seed in 1_000..1_000 + files {
             let file = style.file(seed, records);
+            if !file.chunks(RECORD_BYTES).all(is_for_both) {
+                continue;
+            }
             let unit = sheet_by(&file, Method::Unit, Fault::None);
             let wide = sheet_by(&file, Method::Wide, Fault::None);
             assert!(unit == wide, "{} {seed}: the sheets differ", style.name);

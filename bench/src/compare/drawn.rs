@@ -14,8 +14,8 @@ use crate::wire::Wire;
 pub struct Drawn;
 
 /// The numbers of wires are such that 200,000 hold every code at least two
-/// thousand times, and some thousand legal wires where the shortest has over 24
-/// runs (`tests/drawn_compare.rs`). The longest have just as many pieces as are
+/// thousand times, some thousand legal wires where the shortest has over 24 runs,
+/// and some thousand that seams change (`tests/drawn_compare.rs`). The longest have just as many pieces as are
 /// read, and more.
 const PLAN: Plan = Plan {
     round: &[
@@ -25,6 +25,7 @@ const PLAN: Plan = Plan {
         ("widest", 500),
         ("broken", 60),
         ("flush", 600),
+        ("bricks", 600),
         ("history", 300),
         ("maze", 500),
         ("large", 400),

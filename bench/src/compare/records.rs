@@ -15,8 +15,8 @@ pub struct Records;
 
 /// The numbers of records are such that half a million hold every code at least
 /// a thousand times, 11 and 18 two thousand times with either pin, more than a
-/// third of them wires, and many thousand asks on the widest board
-/// (`tests/compare.rs`). Files are short, since each can begin before bounds. The
+/// third of them wires, many thousand asks on the widest board, and over 20,000
+/// answers that seams change (`tests/compare.rs`). Files are short, since each can begin before bounds. The
 /// longest are one that ends in `end` and one that is cut.
 const PLAN: Plan = Plan {
     round: &[
@@ -28,6 +28,7 @@ const PLAN: Plan = Plan {
         ("broken", 1_500),
         ("full", 2_000),
         ("flush", 1_500),
+        ("bricks", 3_000),
         ("mixed", 1_200),
         ("long", 1_000),
         ("pins", 1_500),

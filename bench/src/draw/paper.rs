@@ -29,7 +29,8 @@ text { font-family: 'DejaVu Sans', Verdana, sans-serif; fill: #22262b; }
 .wirename { fill: #14517e; }
 .board { fill: #fbf9f3; stroke: #22262b; stroke-width: 2; }
 .grid { stroke: #e4dfd1; stroke-width: 1; }
-.keepout { fill: #cfd4da; stroke: #666e78; stroke-width: 1.5; }
+.keepout { fill: #cfd4da; }
+.rim { fill: none; stroke: #666e78; stroke-width: 3; }
 .box { fill: #1b6ca8; }
 .wire { stroke: #1b6ca8; stroke-width: 3; }
 .last { stroke: #d4480b; stroke-width: 4; }
@@ -144,8 +145,13 @@ impl Paper {
         ));
     }
 
-    /// A keep-out, or the boxes around a wire. The boxes of one wire overlap;
-    /// as one translucent group they look like one.
+    /// The line round a keep-out, of which the outer half is seen.
+    pub fn add_rim(&mut self, keepout: Rect) {
+        self.rect(keepout, "rim");
+    }
+
+    /// A keep-out's area, or the boxes around a wire. The boxes of one wire
+    /// overlap; as one translucent group they look like one.
     pub fn add_blocks(&mut self, item: &Item) {
         let frame = self.frame;
         match item {
@@ -208,6 +214,7 @@ impl Paper {
     /// What the colours mean; `answers` are the classes of answered wires.
     pub fn add_legend(&mut self, answers: &[(&str, &str)]) {
         let y = ABOVE + self.high + 66.0;
+        self.pixels(LEFT, y - 11.0, 26.0, 14.0, "rim");
         self.pixels(LEFT, y - 11.0, 26.0, 14.0, "keepout");
         self.text(LEFT + 34.0, y, "note", "keep-out");
         let x = LEFT + 120.0;

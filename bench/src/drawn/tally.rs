@@ -9,6 +9,7 @@ use super::Finding;
 use crate::board::Board;
 use crate::geometry::Rect;
 use crate::limits::{MAX_RUNS, MAX_SIDE};
+use crate::reopened::Reopened;
 use crate::wire::Wire;
 
 #[derive(Clone, Default)]
@@ -21,6 +22,10 @@ pub struct Tally {
     /// among them that are longer.
     pub winding: usize,
     pub winding_longer: usize,
+    /// Wires that are judged otherwise where seams are open, and those among them
+    /// that get 20.
+    pub changed_by_seams: usize,
+    pub along_seams: usize,
     /// Legal wires that touch or cross themselves, and those that touch a block:
     /// a keep-out's side, or exactly the clearance from a laid wire.
     pub self_touching: usize,
@@ -34,9 +39,11 @@ pub struct Tally {
 impl Tally {
     /// Counts the wires of a piece file while its lines are printed.
     pub fn printing(file: &[u8], output: impl Write) -> io::Result<(Tally, Last)> {
-        let mut tally = Tally::default();
-        let last =
-            sheet::print(file, output, Board::default(), Slip::None, |seen| tally.count(seen))?;
+        let (mut tally, mut reopened) = (Tally::default(), Reopened::default());
+        let last = sheet::print(file, output, Board::default(), Slip::None, |seen| {
+            tally.count(seen);
+            tally.count_seams(seen, &mut reopened);
+        })?;
         Ok((tally, last))
     }
 
@@ -57,6 +64,13 @@ impl Tally {
         self.widest += usize::from(widest);
     }
 
+    fn count_seams(&mut self, seen: &Seen, reopened: &mut Reopened) {
+        let changed = reopened.judges_otherwise(seen);
+        self.changed_by_seams += usize::from(changed);
+        let in_keepout = seen.verdict.finding == Finding::InKeepout;
+        self.along_seams += usize::from(changed && in_keepout);
+    }
+
     /// Adds the counts of another file.
     pub fn add(&mut self, other: &Tally) {
         let sum = |mine: &mut [usize], theirs: &[usize]| {
@@ -67,6 +81,8 @@ impl Tally {
         self.longer += other.longer;
         self.winding += other.winding;
         self.winding_longer += other.winding_longer;
+        self.changed_by_seams += other.changed_by_seams;
+        self.along_seams += other.along_seams;
         self.self_touching += other.self_touching;
         self.beside_blocks += other.beside_blocks;
         self.widest += other.widest;
@@ -107,6 +123,11 @@ impl fmt::Display for Tally {
             f,
             "accepted where the shortest has over {MAX_RUNS} runs {}",
             parted(self.winding, self.winding_longer)
+        )?;
+        writeln!(
+            f,
+            "verdicts that seams change: {}, to 20 {}",
+            self.changed_by_seams, self.along_seams
         )?;
         writeln!(f, "accepted that touch themselves {}", self.self_touching)?;
         writeln!(f, "accepted that touch a block {}", self.beside_blocks)?;

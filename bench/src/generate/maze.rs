@@ -16,7 +16,7 @@ pub fn maze(maker: &mut Maker) {
     let turned = maker.rng.chance(50);
     match maker.rng.range(0, 2) {
         0 => comb(maker, turned),
-        1 => bricks(maker, turned),
+        1 => courses(maker, turned),
         _ => posts(maker, turned),
     }
     maker.stir(&MIX, 15);
@@ -51,21 +51,24 @@ fn comb(maker: &mut Maker, turned: bool) {
     through(maker, turned, (0, pitch - clearance), (walls * pitch + clearance, long), high);
 }
 
-/// Courses of two keep-outs each, abutting, the joint now here, now there: the
-/// way up a joint has no width at all, and each course costs two runs.
-fn bricks(maker: &mut Maker, turned: bool) {
+/// Courses of two keep-outs each, the joint now here, now there: each course costs
+/// two runs. Mostly joints and courses have a way of one unit between them; in some
+/// mazes they abut, and only the board's edges lead past all of them.
+fn courses(maker: &mut Maker, turned: bool) {
     let courses = turns(maker, MAX_BLOCKS as i32 / 2 + 1);
-    let (shift, thick) = (maker.rng.range(1, 3), maker.rng.range(1, 3));
+    let (shift, thick) = (maker.rng.range(2, 4), maker.rng.range(1, 3));
+    let way = i32::from(maker.rng.chance(75));
+    let pitch = thick + way;
     // The joints are far enough from the edges that no way round is shorter.
-    let joint = shift * courses + 6;
-    let (high, below) = (2 * joint + shift, maker.rng.range(0, 2));
-    let long = courses * thick + below + maker.rng.range(0, 2);
+    let joint = (shift + way) * courses + 6;
+    let (high, below) = (2 * joint + shift + way, maker.rng.range(0, 2));
+    let long = courses * pitch + below + maker.rng.range(0, 2);
     bounds(maker, turned, long, high, 1);
     for course in 0..courses {
-        let x = below + course * thick;
+        let x = below + course * pitch;
         let y = joint + if course % 2 == 0 { 0 } else { shift };
         let lower = rect(turned, Rect::new(x, 0, x + thick, y));
-        let upper = rect(turned, Rect::new(x, y, x + thick, high));
+        let upper = rect(turned, Rect::new(x, y + way, x + thick, high));
         maker.put(Record::Keepout { id: 2 * course as u16 + 1, rect: lower });
         maker.put(Record::Keepout { id: 2 * course as u16 + 2, rect: upper });
     }

@@ -1,12 +1,15 @@
 //! The plainest router there is, written from document 01's sentences, for
 //! small boards. It shares no code with the bench: it reads the bytes itself,
 //! keeps whole lists of items to go back to, tests every unit edge against
-//! every block, and finds wires by comparing spelled words. `pins` says what is
-//! in the way of a pin, node by node. `drawn` judges wires drawn by hand, step by
-//! step.
+//! every block, and finds wires by comparing spelled words. `seams` writes down the
+//! cells of keep-outs. `pins` says what is in the way of a pin, node by node.
+//! `drawn` judges wires drawn by hand, step by step.
 
 pub mod drawn;
 mod pins;
+mod seams;
+
+use seams::Covered;
 
 type Node = (i64, i64);
 
@@ -115,9 +118,11 @@ impl Naive {
                 }
             }
         }
+        let covered = self.covered(Some((low, high)));
         for (_, thing) in &self.things {
             if let Thing::Wire(corners) = thing {
-                if unit_edges(corners).any(|(p, q)| edge_meets((p, q), (low, high))) {
+                let shut = |edge| edge_meets(edge, (low, high)) || covered.shuts(edge);
+                if unit_edges(corners).any(shut) {
                     return no(8);
                 }
             }
@@ -207,7 +212,8 @@ impl Naive {
             return no(10);
         }
         self.pins_are_free(s, t)?;
-        let Some(word) = first_word((w, h), &self.blocks(), s, t) else { return no(12) };
+        let steps = open_steps((w, h), &self.blocks(), &self.covered(None));
+        let Some(word) = first_word((w, h), &steps, s, t) else { return no(12) };
         if corners(s, &word).len() - 1 > 24 {
             return no(13);
         }
@@ -252,14 +258,16 @@ struct Step {
     to: usize,
 }
 
-fn open_steps(size: Node, blocks: &[(Node, Node)]) -> Vec<Step> {
+fn open_steps(size: Node, blocks: &[(Node, Node)], covered: &Covered) -> Vec<Step> {
     let index = |p: Node| (p.1 * (size.0 + 1) + p.0) as usize;
     let mut steps = Vec::new();
     for p in points(0, 0, size.0, size.1) {
         for (letter, step) in STEPS.iter().enumerate() {
             let q = (p.0 + step.0, p.1 + step.1);
             let on_board = 0 <= q.0 && q.0 <= size.0 && 0 <= q.1 && q.1 <= size.1;
-            if on_board && !blocks.iter().any(|block| edge_meets((p, q), *block)) {
+            let blocked =
+                || covered.shuts((p, q)) || blocks.iter().any(|block| edge_meets((p, q), *block));
+            if on_board && !blocked() {
                 steps.push(Step { from: index(p), letter: letter as u8, to: index(q) });
             }
         }
@@ -291,12 +299,11 @@ fn lengths(size: Node, steps: &[Step], t: Node) -> Vec<Option<usize>> {
 /// The first of the shortest words that lead from s to t. The words are made, the
 /// short ones first. The first word from a node is the first among a step and
 /// the first word from the node after it.
-fn first_word(size: Node, blocks: &[(Node, Node)], s: Node, t: Node) -> Option<Vec<u8>> {
+fn first_word(size: Node, steps: &[Step], s: Node, t: Node) -> Option<Vec<u8>> {
     let index = |p: Node| (p.1 * (size.0 + 1) + p.0) as usize;
-    let steps = open_steps(size, blocks);
-    let length = lengths(size, &steps, t);
+    let length = lengths(size, steps, t);
     let mut by_length: Vec<Vec<&Step>> = vec![Vec::new(); length[index(s)]? + 1];
-    for step in &steps {
+    for step in steps {
         if let (Some(from), Some(to)) = (length[step.from], length[step.to]) {
             if from == to + 1 && from < by_length.len() {
                 by_length[from].push(step);

@@ -8,11 +8,11 @@ ghost use mathlib.Core.List.{[], _∷_};
 ghost use Rattle.paper.specs.Limits.{most-blocks, most-runs};
 ghost use Rattle.paper.specs.Grid.{Meets, Blocked};
 ghost use Rattle.paper.specs.Layout.{wires, Meet};
-ghost use Rattle.paper.specs.Padding.{WellFormed};
 ghost use Rattle.paper.specs.Laws.Back.{thingOf, layoutOf};
 ghost use Rattle.paper.specs.Laws.Says.{Says};
 ghost use Rattle.blocks.specs.Flat.{span, placeArea, Fits, looked, FirstIs, Hit, packed, Held, HeldOf, sortTo};
 ghost use Rattle.blocks.specs.Growing.{withEnd, stretchAt, stretched, Room, Grows, Adds};
+ghost use Rattle.blocks.specs.Laws.Board.{Drawn};
 ghost use Rattle.blocks.specs.Meeting.{Placed, blockNumber, keptFrom};
 
 // The blocks of at most 46 items, in the items' order. Those of item i stand from first[i] up to first[i + 1].
@@ -51,7 +51,7 @@ pub enum Found {
 // ---- the scan
 
 // On one axis: whether what lies between a and b meets the block from lo to hi, widened by c.
-fn meets(lo: u16, hi: u16, c: u16, a: u16, b: u16) -> bool
+pub fn meets(lo: u16, hi: u16, c: u16, a: u16, b: u16) -> bool
     ensures { λ r. ⌜ Says r (Meets (span lo hi c) a b) ⌝ }
 {
     (lo as u32) < (b as u32) + (c as u32) && (a as u32) < (hi as u32) + (c as u32)
@@ -139,13 +139,13 @@ fn close(b: Blocks, end: usize, wire: bool) -> Blocks
     out
 }
 
-fn lower(a: u16, b: u16) -> u16
+pub fn lower(a: u16, b: u16) -> u16
     ensures { λ r. ⌜ r ≡ min a b ⌝ }
 {
     if a < b { a } else { b }
 }
 
-fn upper(a: u16, b: u16) -> u16
+pub fn upper(a: u16, b: u16) -> u16
     ensures { λ r. ⌜ r ≡ max a b ⌝ }
 {
     if a < b { b } else { a }
@@ -203,7 +203,7 @@ fn with_item(b: Blocks, item: Item, c: u16) -> Blocks
 
 // The blocks of all items, with the distance c kept from wires.
 fn gather(board: Board, c: u16) -> Blocks
-    requires { ⌜ WellFormed board ⌝ }
+    requires { ⌜ Drawn board (layoutOf board .items) ⌝ }
     ensures { λ r. ⌜ Held r c wires (layoutOf board .items) ⌝ }
 {
     let n = board.count;
@@ -219,7 +219,7 @@ fn gather(board: Board, c: u16) -> Blocks
 
 // The blocks that the board's items are to a wire, or to a keep-out, which keeps no distance.
 pub fn of_board(board: Board, to_wire: bool) -> Blocks
-    requires { ⌜ WellFormed board ⌝ }
+    requires { ⌜ Drawn board (layoutOf board .items) ⌝ }
     ensures { λ r. ⌜ HeldOf r (sortTo «to_wire») (layoutOf board) ⌝ }
 {
     if to_wire {

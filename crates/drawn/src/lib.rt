@@ -16,6 +16,7 @@ use paper::Pins;
 use paper::Size;
 use router::Route;
 use router::find_wire;
+use seams::entered;
 use shapes::Fault;
 use shapes::bad_shape;
 use shapes::fault_at;
@@ -30,10 +31,12 @@ ghost use Rattle.paper.specs.Answer.{source, target};
 ghost use Rattle.paper.specs.Drawn.{JudgedOn, Judges};
 ghost use Rattle.paper.specs.Laws.Back.{layoutOf};
 ghost use Rattle.paper.specs.Laws.Says.{Says};
+ghost use Rattle.paper.specs.Laws.Joins.{joined};
 ghost use Rattle.blocks.specs.Flat.{flat, Fits};
 ghost use Rattle.blocks.specs.Growing.{cornerAt};
+ghost use Rattle.seams.specs.Seaming.{Keeps};
 ghost use Rattle.router.specs.Route.{Asked, shortestOf};
-ghost use Rattle.drawn.specs.Drawing.{refusedBy, SomeHeld, RunSays, PlacesSay, AllSay, Reached, Over, pinsOf};
+ghost use Rattle.drawn.specs.Drawing.{refusedBy, SomeHeld, Straight, RunSays, PlacesSay, AllSay, Reached, Over, pinsOf};
 
 // ---- the places of its runs
 
@@ -50,7 +53,7 @@ fn on_board(size: Size, item: Item, k: usize) -> bool
 
 // What stands in the way of the run at k.
 fn run_fault(size: Size, held: Blocks, item: Item, k: usize) -> Fault
-    requires { ⌜ Fits held × (k < most-runs) ⌝ }
+    requires { ⌜ Keeps held × (k < most-runs) × Straight item k ⌝ }
     ensures { λ r. ⌜ RunSays size held item k r ⌝ }
 {
     if !on_board(size, item, k) {
@@ -60,7 +63,7 @@ fn run_fault(size: Size, held: Blocks, item: Item, k: usize) -> Fault
         return fault_at(9, k);
     }
     let place = stretch(item, k);
-    if hit(held, Look::KeepOuts, place) {
+    if entered(held, place) {
         return fault_at(20, k);
     }
     if hit(held, Look::Wires, place) {
@@ -71,7 +74,7 @@ fn run_fault(size: Size, held: Blocks, item: Item, k: usize) -> Fault
 
 // The first of the item's n runs that something stands in the way of.
 fn bad_run(size: Size, held: Blocks, item: Item, n: usize) -> Fault
-    requires { ⌜ Fits held × (n ≤ most-runs) ⌝ }
+    requires { ⌜ Keeps held × (n ≤ most-runs) × ((k : ℕ) → k < n → Straight item k) ⌝ }
     ensures { λ r. ⌜ PlacesSay size held item n r ⌝ }
 {
     let mut k: usize = 0;
@@ -112,8 +115,8 @@ fn shortest(route: Route) -> u32
 
 // By how many steps a wire of this length, which there is, is longer than a shortest one.
 fn excess(size: Size, held: Blocks, p: Pins, length: u32) -> u32
-    requires { ⌜ Fits held × Asked size (flat held) p × Reached (gridWith (size .w) (size .h) (flat held)) (source p) (target p) length ⌝ }
-    ensures { λ r. ⌜ Over (gridWith (size .w) (size .h) (flat held)) (source p) (target p) length r ⌝ }
+    requires { ⌜ Fits held × Asked size (flat held) p × Reached (gridWith (size .w) (size .h) (joined (flat held))) (source p) (target p) length ⌝ }
+    ensures { λ r. ⌜ Over (gridWith (size .w) (size .h) (joined (flat held))) (source p) (target p) length r ⌝ }
 {
     let found = find_wire(size, held, p);
     let route = found.route;

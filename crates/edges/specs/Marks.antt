@@ -5,7 +5,9 @@ use mathlib.Core.Path.{_≡_}
 use mathlib.Core.List.{List}
 use mathlib.Core.Logic.{_⊎_}
 use lib.ListN.{length, getD}
-use Rattle.paper.specs.Grid.{Node, Axis, Block, Hits, edge}
+use Rattle.paper.specs.Grid.{Node, Axis, Block, Hits, Any, edge}
+use Rattle.paper.specs.Laws.Joins.{joinOf}
+use Rattle.blocks.specs.declared.Place.{Place}
 use Rattle.edges.specs.declared.Range.{Range}
 use Rattle.edges.specs.declared.Box.{Box}
 
@@ -36,6 +38,12 @@ block b = record {
   along-y = record { lo = b .y0; hi = b .y1; c = b .c };
 }
 
+abbrev pub placeOf : Box → Place
+placeOf b = record { x0 = b .x0; y0 = b .y0; x1 = b .x1; y1 = b .y1 }
+
+abbrev pub bareOf : Place → Box
+bareOf p = record { x0 = p .x0; y0 = p .y0; x1 = p .x1; y1 = p .y1; c = 0 }
+
 -- block k of the arrays
 unfoldable pub boxAt : List ℕ → List ℕ → List ℕ → List ℕ → List ℕ → ℕ → Block
 boxAt x0 y0 x1 y1 c k = record {
@@ -60,9 +68,17 @@ pub record Blank (d : List ℕ) : Type 0 where
   pub long : length d ≡ 9216
   pub each : (i : ℕ) → i < 9216 → getD d i 0 ≡ 0
 
--- one of the first n blocks shuts the way
+-- the rectangle of two blocks does so
+unfoldable pub SeamShuts : Axis → Block → Block → List ℕ → List ℕ → ℕ → ℕ → Type 0
+SeamShuts a b d xs ys i j = Any (λ q. Shuts a q xs ys i j) (joinOf b d)
+
+-- that of block k and one of the first m
+abbrev pub Seam : Axis → List ℕ → List ℕ → (ℕ → Block) → ℕ → ℕ → ℕ → ℕ → Type 0
+Seam a xs ys b k m i j = (l : ℕ) × (l < m) × SeamShuts a (b l) (b k) xs ys i j
+
+-- one of the first n blocks shuts the way, or the rectangle of two of them
 abbrev pub Shut : Axis → List ℕ → List ℕ → (ℕ → Block) → ℕ → ℕ → ℕ → Type 0
-Shut a xs ys b n i j = (k : ℕ) × (k < n) × Shuts a (b k) xs ys i j
+Shut a xs ys b n i j = (k : ℕ) × (k < n) × (Shuts a (b k) xs ys i j ⊎ Seam a xs ys b k k i j)
 
 -- a mark stands just where a way is shut; none stands past the crossings
 pub record Marked (a : Axis) (d xs : List ℕ) (nx : ℕ) (ys : List ℕ) (ny : ℕ) (b : ℕ → Block) (n : ℕ) : Type 0 where

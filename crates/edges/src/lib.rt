@@ -1,10 +1,13 @@
-// Which ways between neighbouring crossings are shut: marked block by block, a rectangle of marks each.
+// Which ways between neighbouring crossings are shut: marked block by block and for each two that share a side, a rectangle of marks each.
+use blocks::Place;
+use seams::Joined;
+use seams::join;
 ghost use mathlib.Core.Path.{_≡_};
-ghost use Prim.Native.Nat.{ℕ, _+_, _*_, _<_, _≤_};
-ghost use lib.ListN.{length, getD};
+ghost use Prim.Native.Nat.{_+_, _*_, _<_, _≤_};
+ghost use lib.ListN.{length};
 ghost use Rattle.edges.specs.Ranges.{Rising, Below, Meeting};
 ghost use Rattle.paper.specs.Grid.{level, upright};
-ghost use Rattle.edges.specs.Marks.{Filled, Boxed, block, boxAt, Shuts, Added, Blank, Marked};
+ghost use Rattle.edges.specs.Marks.{Filled, Boxed, block, placeOf, bareOf, boxAt, Shuts, SeamShuts, Seam, Added, Blank, Marked};
 
 // From one track up to another, which is not in it.
 pub struct Range {
@@ -142,7 +145,101 @@ fn box_at(
     }
 }
 
-// Marks the ways that n blocks shut, on two tables without marks.
+// A box without its width, and back.
+fn place(b: Box) -> Place
+    ensures { λ r. ⌜ r ≡ placeOf b ⌝ }
+{
+    Place {
+        x0: b.x0,
+        y0: b.y0,
+        x1: b.x1,
+        y1: b.y1,
+    }
+}
+
+fn bare(p: Place) -> Box
+    ensures { λ r. ⌜ r ≡ bareOf p ⌝ }
+{
+    Box {
+        x0: p.x0,
+        y0: p.y0,
+        x1: p.x1,
+        y1: p.y1,
+        c: 0,
+    }
+}
+
+// Marks the ways between two blocks that are not widened and share a side: those that the rectangle of both shuts.
+fn mark_seam(
+    flat: &mut [u8; 9216],
+    tall: &mut [u8; 9216],
+    xs: &[u16; 96],
+    nx: usize,
+    ys: &[u16; 96],
+    ny: usize,
+    a: Box,
+    b: Box,
+)
+    requires { ⌜ (length (now flat) ≡ 9216) × (length (now tall) ≡ 9216) × (nx ≤ 96) × (ny ≤ 96) × Rising (now xs) nx × Rising (now ys) ny ⌝ }
+    ensures { λ _. ⌜ Added (now (flat .entry)) (now (flat .exit)) nx ny (SeamShuts level (block a) (block b) (now (xs .entry)) (now (ys .entry))) ×
+        Added (now (tall .entry)) (now (tall .exit)) nx ny (SeamShuts upright (block a) (block b) (now (xs .entry)) (now (ys .entry))) ⌝ }
+{
+    if a.c != 0 {
+        return;
+    }
+    if b.c != 0 {
+        return;
+    }
+    match join(place(a), place(b)) {
+        Joined::Over(p) => {
+            mark_block(flat, tall, xs, nx, ys, ny, bare(p));
+        }
+        Joined::Apart => {}
+    }
+}
+
+// Marks the ways between block k and each before it. A block that is widened is a run's, and has none.
+fn mark_seams(
+    flat: &mut [u8; 9216],
+    tall: &mut [u8; 9216],
+    xs: &[u16; 96],
+    nx: usize,
+    ys: &[u16; 96],
+    ny: usize,
+    x0: &[u16; 46],
+    y0: &[u16; 46],
+    x1: &[u16; 46],
+    y1: &[u16; 46],
+    c: &[u16; 46],
+    k: usize,
+)
+    requires { ⌜ (length (now flat) ≡ 9216) × (length (now tall) ≡ 9216) × (nx ≤ 96) × (ny ≤ 96) × Rising (now xs) nx × Rising (now ys) ny × (k < 46) ⌝ }
+    ensures { λ _. ⌜ Added (now (flat .entry)) (now (flat .exit)) nx ny (Seam level (now (xs .entry)) (now (ys .entry))
+        (boxAt (now (x0 .entry)) (now (y0 .entry)) (now (x1 .entry)) (now (y1 .entry)) (now (c .entry))) k k) ×
+        Added (now (tall .entry)) (now (tall .exit)) nx ny (Seam upright (now (xs .entry)) (now (ys .entry))
+        (boxAt (now (x0 .entry)) (now (y0 .entry)) (now (x1 .entry)) (now (y1 .entry)) (now (c .entry))) k k) ⌝ }
+{
+    let last = box_at(x0, y0, x1, y1, c, k);
+    if last.c != 0 {
+        return;
+    }
+    let mut m: usize = 0;
+    while m < k {
+        mark_seam(
+            flat,
+            tall,
+            xs,
+            nx,
+            ys,
+            ny,
+            box_at(x0, y0, x1, y1, c, m),
+            last,
+        );
+        m += 1;
+    }
+}
+
+// Marks the ways that n blocks shut, one by one and two by two, on two tables without marks.
 pub fn edges(
     flat: &mut [u8; 9216],
     tall: &mut [u8; 9216],
@@ -166,6 +263,7 @@ pub fn edges(
     let mut k: usize = 0;
     while k < n {
         mark_block(flat, tall, xs, nx, ys, ny, box_at(x0, y0, x1, y1, c, k));
+        mark_seams(flat, tall, xs, nx, ys, ny, x0, y0, x1, y1, c, k);
         k += 1;
     }
 }

@@ -18,7 +18,7 @@ use Rattle.paper.specs.declared.Verdict.{Verdict}
 use Rattle.paper.specs.Limits.{most-blocks, most-corners, least-slice}
 use Rattle.paper.specs.Grid.{Node, Dir, Pairs}
 use Rattle.paper.specs.Wire.{detour}
-use Rattle.paper.specs.Layout.{idOf, keep-outs, wires, OnBoard, blockCount, Below, Layout}
+use Rattle.paper.specs.Layout.{idOf, Sort, keep-outs, wires, OnBoard, blockCount, Below, Layout}
 use Rattle.paper.specs.Padding.{filled, boardOf}
 use Rattle.paper.specs.Reading.{Plain, fieldsOf}
 use Rattle.paper.specs.Answer.{named, plain, Check, _if_, _unless_, _about_naming_, Gives, source, target, BeforeBounds, Blocking, TheWire, way, checks, pinChecks, addTo, written, Replies}
@@ -26,10 +26,11 @@ use Rattle.paper.specs.Laws.Back.{nodes, thingOf, layoutOf}
 use Rattle.paper.specs.Laws.Standing.{Standing, thingAt}
 use Rattle.paper.specs.Laws.Feeds.{refusing}
 use Rattle.blocks.specs.declared.Blocks.{Blocks}
-use Rattle.blocks.specs.declared.Place.{Place}
-use Rattle.blocks.specs.declared.Look.the-variants.{KeepOuts, Wires as WiresAlone}
+use Rattle.blocks.specs.declared.Look.the-variants.{Wires as WiresAlone}
 use Rattle.blocks.specs.declared.Found.the-variants.{At, Nothing}
+use Rattle.blocks.specs.declared.Found.{Found}
 use Rattle.blocks.specs.Flat.{FirstIs, HeldOf}
+use Rattle.seams.specs.Seaming.{RoundIs}
 use Rattle.items.specs.Items.{Whole}
 use Rattle.router.specs.declared.Route.{Route}
 use Rattle.router.specs.declared.Route.the-variants.{Wire, NoWire, TooManyRuns}
@@ -37,9 +38,6 @@ use Rattle.router.specs.declared.Routed.{Routed}
 use Rattle.router.specs.Route.{codeOf, lengthOf, detourOf, cornersOf}
 use Rattle.feed.specs.declared.Wired.{Wired}
 use Rattle.feed.specs.declared.wires.Stop.{Stop}
-
-abbrev pub hereIs : ℕ → ℕ → Place
-hereIs x y = record { x0 = x; y0 = y; x1 = x; y1 = y }
 
 -- ---- kinds
 
@@ -59,12 +57,17 @@ stopAt k pin i = record { code = k; pin = pin; item = i }
 abbrev pub noStop : ℕ → Stop
 noStop k = stopAt k 0 0
 
--- 11 with the first keep-out that blocks the place, or else 18 with the first wire; 0 where neither does
-unfoldable pub StopsPin : Blocks → Place → ℕ → Stop → Type 0
-StopsPin b p pin r =
-    ((r ≡ stopAt 11 pin (r .item)) × FirstIs b KeepOuts p (At (r .item)))
-    ⊎ ((r ≡ stopAt 18 pin (r .item)) × FirstIs b KeepOuts p Nothing × FirstIs b WiresAlone p (At (r .item)))
-    ⊎ ((r ≡ noStop 0) × FirstIs b KeepOuts p Nothing × FirstIs b WiresAlone p Nothing)
+-- the first keep-out round the node, where it is all round covered; the first wire near it
+unfoldable pub FirstAt : Blocks → Sort → ℕ → ℕ → Found → Type 0
+FirstAt b keep-outs x y f = RoundIs b x y f
+FirstAt b wires x y f = FirstIs b WiresAlone (record { x0 = x; y0 = y; x1 = x; y1 = y }) f
+
+-- 11 with the keep-out, or else 18 with the wire; 0 where there is neither
+unfoldable pub StopsPin : Blocks → ℕ → ℕ → ℕ → Stop → Type 0
+StopsPin b x y pin r =
+    ((r ≡ stopAt 11 pin (r .item)) × FirstAt b keep-outs x y (At (r .item)))
+    ⊎ ((r ≡ stopAt 18 pin (r .item)) × FirstAt b keep-outs x y Nothing × FirstAt b wires x y (At (r .item)))
+    ⊎ ((r ≡ noStop 0) × FirstAt b keep-outs x y Nothing × FirstAt b wires x y Nothing)
 
 -- the checks of one pin
 abbrev pub oneChecks : Layout → ℕ → Node → List Check

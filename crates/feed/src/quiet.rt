@@ -18,13 +18,14 @@ use paper::MOST_CORNERS;
 use paper::Record;
 use paper::Rect;
 use paper::Reply;
+use seams::stopped;
 use soundness::in_range;
 use soundness::rect_fits;
 ghost use mathlib.Core.Path.{_≡_};
 ghost use Rattle.paper.specs.Layout.{keep-out};
 ghost use Rattle.paper.specs.Padding.{itemOf, WellFormed};
 ghost use Rattle.paper.specs.Laws.Back.{layoutOf};
-ghost use Rattle.feed.specs.Feeding.{Wires, KindIs, Quietly, KeepOutCode};
+ghost use Rattle.feed.specs.Feeding.{KindIs, Quietly, KeepOutCode};
 
 // Kind 1.
 pub(crate) fn bounds(board: Board, read: Record) -> Reply
@@ -66,7 +67,7 @@ fn keep_out_code(board: Board, id: Id, rect: Rect) -> u8
     if hit(held, Look::KeepOuts, place) {
         return 7;
     }
-    if hit(held, Look::Wires, place) {
+    if stopped(held, place) {
         return 8;
     }
     let last = held.items;

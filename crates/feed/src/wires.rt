@@ -6,7 +6,6 @@ use blocks::Blocks;
 use blocks::Found;
 use blocks::Look;
 use blocks::Place;
-use blocks::hit;
 use blocks::of_board;
 use blocks::scan;
 use paper::Board;
@@ -19,6 +18,7 @@ use paper::Verdict;
 use router::Route;
 use router::Routed;
 use router::find_wire;
+use seams::round;
 ghost use mathlib.Core.Path.{_≡_};
 ghost use Prim.Native.Nat.{_<_, _≤_};
 ghost use lib.ListN.{getD};
@@ -26,21 +26,10 @@ ghost use Rattle.paper.specs.Limits.{most-blocks};
 ghost use Rattle.paper.specs.Padding.{no-item, WellFormed};
 ghost use Rattle.paper.specs.Answer.{named};
 ghost use Rattle.paper.specs.Laws.Back.{layoutOf};
-ghost use Rattle.blocks.specs.declared.Look.the-variants.{KeepOuts};
 ghost use Rattle.blocks.specs.declared.Found.the-variants.{Nothing};
-ghost use Rattle.blocks.specs.Flat.{Fits, FirstIs};
-ghost use Rattle.feed.specs.Feeding.{hereIs, noStop, StopsPin, StopsPins, wiredOf, noWire, Wires};
-
-fn here(x: u16, y: u16) -> Place
-    ensures { λ r. ⌜ r ≡ hereIs x y ⌝ }
-{
-    Place {
-        x0: x,
-        y0: y,
-        x1: x,
-        y1: y,
-    }
-}
+ghost use Rattle.blocks.specs.Flat.{Fits};
+ghost use Rattle.seams.specs.Seaming.{RoundIs};
+ghost use Rattle.feed.specs.Feeding.{noStop, StopsPin, StopsPins, wiredOf, noWire, Wires};
 
 // What stands in the way of two pins: a code, with 11 and 18 the pin and the place of the item among the board's; code 0 where nothing does.
 struct Stop {
@@ -59,10 +48,16 @@ fn no_stop(code: u8) -> Stop
     }
 }
 
-fn near_wire(held: Blocks, at: Place, pin: u8) -> Stop
-    requires { ⌜ Fits held × FirstIs held KeepOuts at Nothing ⌝ }
-    ensures { λ r. ⌜ StopsPin held at pin r ⌝ }
+fn near_wire(held: Blocks, x: u16, y: u16, pin: u8) -> Stop
+    requires { ⌜ Fits held × RoundIs held x y Nothing ⌝ }
+    ensures { λ r. ⌜ StopsPin held x y pin r ⌝ }
 {
+    let at = Place {
+        x0: x,
+        y0: y,
+        x1: x,
+        y1: y,
+    };
     match scan(held, Look::Wires, at) {
         Found::At(i) => Stop {
             code: 18,
@@ -73,27 +68,23 @@ fn near_wire(held: Blocks, at: Place, pin: u8) -> Stop
     }
 }
 
-// Most pins are free, and one scan says so.
-fn pin_stop(held: Blocks, at: Place, pin: u8) -> Stop
-    requires { ⌜ Fits held ⌝ }
-    ensures { λ r. ⌜ StopsPin held at pin r ⌝ }
+fn pin_stop(held: Blocks, x: u16, y: u16, pin: u8) -> Stop
+    requires { ⌜ Fits held × (x < 65535) × (y < 65535) ⌝ }
+    ensures { λ r. ⌜ StopsPin held x y pin r ⌝ }
 {
-    if !hit(held, Look::Either, at) {
-        return no_stop(0);
-    }
-    match scan(held, Look::KeepOuts, at) {
+    match round(held, x, y) {
         Found::At(i) => Stop {
             code: 11,
             pin: pin,
             item: i,
         },
-        Found::Nothing => near_wire(held, at, pin),
+        Found::Nothing => near_wire(held, x, y, pin),
     }
 }
 
 // What two pins get before a wire is looked for.
 fn pins_stop(size: Size, held: Blocks, p: Pins) -> Stop
-    requires { ⌜ Fits held ⌝ }
+    requires { ⌜ Fits held × (size .w < 65535) × (size .h < 65535) ⌝ }
     ensures { λ r. ⌜ StopsPins size held p r ⌝ }
 {
     if !on_board(size, p) {
@@ -102,11 +93,11 @@ fn pins_stop(size: Size, held: Blocks, p: Pins) -> Stop
     if one_node(p) {
         return no_stop(10);
     }
-    let s = pin_stop(held, here(p.sx, p.sy), 1);
+    let s = pin_stop(held, p.sx, p.sy, 1);
     if s.code != 0 {
         return s;
     }
-    pin_stop(held, here(p.tx, p.ty), 2)
+    pin_stop(held, p.tx, p.ty, 2)
 }
 
 // The id of the item at a place. It takes the items alone: a board would be copied whole.

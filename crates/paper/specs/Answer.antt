@@ -1,5 +1,5 @@
--- Document 01, "Codes and their order", with 11 and 18 as document 02 (order 2) parts them: what a record is answered, and what an accepted one
--- does.
+-- Document 01, "Codes and their order", with 11 and 18 as document 02 (order 2) parts them and with the seams of its order 3: what a record is
+-- answered, and what an accepted one does.
 -- Assumes nothing.
 use Prim.Native.Nat.{ℕ, _≤_, _<_}
 use mathlib.Core.Path.{_≡_}
@@ -16,7 +16,7 @@ use Rattle.paper.specs.declared.Record.the-variants.{Bounds, KeepOut, La
 use Rattle.paper.specs.Limits.{most-blocks, most-runs, most-kept, least-slice}
 use Rattle.paper.specs.Grid.{Node, Dir, Area, Any, Blocked, node}
 use Rattle.paper.specs.Wire.{Legal, Answered, corners, runs, detour}
-use Rattle.paper.specs.Layout.{Thing, keep-out, wire, idOf, Sort, keep-outs, wires, sortOf, rectangle, blocksOf, blockCount, gridOf, RectFits, OnBoard, Turn, added, taken, add, without, Has, Used, undo, Layout, InRange, empty}
+use Rattle.paper.specs.Layout.{Thing, keep-out, wire, idOf, Sort, keep-outs, wires, sortOf, rectangle, blocksOf, blockCount, Covers, round, Sealed, Seamed, gridOf, RectFits, OnBoard, Turn, added, taken, add, without, Has, Used, undo, Layout, InRange, empty}
 use Rattle.paper.specs.Padding.{boardOf, Holds, WellFormed}
 use Rattle.paper.specs.Reading.{Reads}
 
@@ -76,9 +76,18 @@ Bars l to of a t = (sortOf t ≡ of) × Blocked (blocksOf (l .size .clearance) t
 abbrev pub Enters : Layout → Rect → Sort → Type 0
 Enters l r of = Any (Bars l keep-outs of (rectangle r)) (l .items)
 
+-- with the keep-out among the items a laid wire would go along a closed seam
+unfoldable pub Closes : Layout → Thing → Type 0
+Closes l t = Any (Seamed (t ∷ l .items)) (l .items)
+
+-- the item blocks the node: a keep-out that holds one of the four cells round it, where each of them lies in one; a wire nearer than the clearance
+unfoldable pub BarsNode : Layout → Sort → Node → Thing → Type 0
+BarsNode l keep-outs p t = Sealed (l .items) (round p) × Any (Covers t) (round p)
+BarsNode l wires p t = Bars l wires wires (node p) t
+
 -- the item with the id is of the sort, and blocks the node
 abbrev pub Blocking : Layout → Sort → Node → ℕ → Type 0
-Blocking l of p i = Any (λ t. (idOf t ≡ i) × Bars l wires of (node p) t) (l .items)
+Blocking l of p i = Any (λ t. (idOf t ≡ i) × BarsNode l of p t) (l .items)
 
 abbrev pub NoWire : Layout → Pins → Type 0
 NoWire l p = (w : List Dir) → ¬ (Legal (gridOf (l .size) (l .items)) (source p) (target p) w)
@@ -120,7 +129,7 @@ checks l (KeepOut i r) n =
     ∷ (4 if Used (l .items) (i .number))
     ∷ (6 unless RectFits (l .size) r)
     ∷ (7 if Enters l r keep-outs)
-    ∷ (8 if Enters l r wires)
+    ∷ (8 if (Enters l r wires ⊎ Closes l (keep-out (i .number) r)))
     ∷ (14 if TooManyBlocks l (keep-out (i .number) r))
     ∷ []
 checks l (Lay i p) n =

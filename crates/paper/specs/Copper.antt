@@ -12,7 +12,7 @@ use Rattle.paper.specs.declared.Record.{Record}
 use Rattle.paper.specs.declared.Record.the-variants.{Lay, Ask}
 use Rattle.paper.specs.Grid.{Node, Dir, step, Grid, Area, Any, All}
 use Rattle.paper.specs.Wire.{ToGo, Answered, runs, manhattan, detour}
-use Rattle.paper.specs.Layout.{Thing, keep-out, wire, rectangle, gridOf, Layout}
+use Rattle.paper.specs.Layout.{Thing, keep-out, wire, rectangle, Covered, gridOf, Layout}
 use Rattle.paper.specs.Answer.{source, target, way, written}
 
 -- ---- points
@@ -40,6 +40,14 @@ unfoldable pub Shuns : ℕ → ℕ → Node → Thing → Type 0
 Shuns k c p (keep-out i r) = ¬ (In k p (rectangle r))
 Shuns k c p (wire i qs) = (q : Node) → OnWire k q qs → Far k c p q
 
+-- the unit cell that ends at n has the point in it, its rim included; the point's numbers are counted in k-ths of a unit
+abbrev pub Round : ℕ → Node → Node → Type 0
+Round k p n = ((p .x ≤ k * n .x) × (k * n .x ≤ p .x + k)) × ((p .y ≤ k * n .y) × (k * n .y ≤ p .y + k))
+
+-- every cell round the point lies in a keep-out: it is inside them, taken together
+abbrev pub Inside : ℕ → Node → List Thing → Type 0
+Inside k p ts = (n : Node) → Round k p n → Covered ts n
+
 -- ---- the distance still to go
 
 -- from each node of the walk it is smaller than from the node before
@@ -60,6 +68,7 @@ pub record Copper (l : Layout) (p : Pins) (s s′ : List ℕ) (r : Reply) (w : L
   pub long : r .length ≡ length w
   pub away : r .detour ≡ detour (target p) (source p) w
   pub clear : (k : ℕ) (q : Node) → OnWire k q (way p w) → All (Shuns k (l .size .clearance) q) (l .items)
+  pub outside : (k : ℕ) (q : Node) → OnWire k q (way p w) → ¬ (Inside k q (l .items))
   pub falls : Falls (gridOf (l .size) (l .items)) (target p) (source p) w
   pub sum : r .length ≡ manhattan (source p) (target p) + 2 * r .detour
   pub bits : r .length < 4294967296

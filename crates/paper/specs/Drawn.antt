@@ -1,4 +1,4 @@
--- Document 02, order 1: a wire drawn by hand, told by its corners, and what is said of it.
+-- Document 02, order 1, with the seams of its order 3: a wire drawn by hand, told by its corners, and what is said of it.
 -- Assumes nothing.
 use Prim.Native.Nat.{ℕ, suc, _+_, _≤_}
 use mathlib.Core.Path.{_≡_}
@@ -11,7 +11,7 @@ use Rattle.paper.specs.declared.Judged.{Judged}
 use Rattle.paper.specs.Limits.{most-corners}
 use Rattle.paper.specs.Grid.{Node, level, upright, Grid, Area, Any}
 use Rattle.paper.specs.Wire.{ToGo, between, runs, manhattan}
-use Rattle.paper.specs.Layout.{keep-outs, wires, gridOf, OnBoard, Along, lastOf, EndsDiffer, Layout}
+use Rattle.paper.specs.Layout.{keep-outs, wires, InSeam, gridOf, OnBoard, Along, lastOf, EndsDiffer, Layout}
 use Rattle.paper.specs.Padding.{Holds, WellFormed}
 use Rattle.paper.specs.Answer.{placed, Check, _if_, _unless_, _about_if_, Gives, BeforeBounds, Bars}
 
@@ -37,9 +37,9 @@ Bent r = (¬ (Along level r)) × (¬ (Along upright r))
 abbrev pub Unturned : Area → Area → Type 0
 Unturned q r = (Along level q × Along level r) ⊎ (Along upright q × Along upright r)
 
--- the run enters a keep-out
+-- the run enters a keep-out, or a unit edge of it is a closed seam
 abbrev pub InKeepOut : Layout → Area → Type 0
-InKeepOut l r = Any (Bars l wires keep-outs r) (l .items)
+InKeepOut l r = Any (Bars l wires keep-outs r) (l .items) ⊎ InSeam (l .items) r
 
 -- the run is nearer than the clearance to a laid wire
 abbrev pub NearWire : Layout → Area → Type 0

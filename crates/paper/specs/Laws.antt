@@ -4,6 +4,7 @@
 pub mod Lists
 pub mod Among
 pub mod Apart
+pub mod Covering
 pub mod Steps
 -- one answer to everything
 pub mod Checks
@@ -13,11 +14,18 @@ pub mod Back
 pub mod One
 -- an accepted record leaves a well-formed board
 pub mod Traced
+pub mod Opens
+pub mod Joins
+pub mod Cells
+pub mod Seams
 pub mod Next
 pub mod Kept
 pub mod Shape
 pub mod Filled
 pub mod Standing
+-- seams by rectangles of two
+pub mod Joining
+pub mod Closing
 -- demand 3
 pub mod Story
 pub mod Alike

@@ -1,5 +1,5 @@
 -- A board as the paper has it: its size, its clearance, its items by rising id and its kept changes; and when it is well formed
--- (document 01, "The twelve-byte record", second paragraph, and "A board is well formed if").
+-- (document 01, "The twelve-byte record", second paragraph, and "A board is well formed if"; the seams between keep-outs are document 02's order 3).
 -- Assumes nothing.
 use Prim.Native.Nat.{ℕ, _+_, _≤_, _<_}
 use mathlib.Core.Path.{_≡_}
@@ -11,7 +11,7 @@ use lib.Dec.{eqb, ltb}
 use Rattle.paper.specs.declared.Size.{Size}
 use Rattle.paper.specs.declared.Rect.{Rect}
 use Rattle.paper.specs.Limits.{most-side, most-clearance, most-blocks, most-runs, most-kept}
-use Rattle.paper.specs.Grid.{Node, Axis, level, upright, Grid, gridWith, Area, Block, widened, Any, All, Pairs, Blocked}
+use Rattle.paper.specs.Grid.{Node, E, N, step, Axis, level, upright, Grid, edge, Area, Block, widened, Any, All, Pairs, Blocked}
 use Rattle.paper.specs.Wire.{runs}
 
 -- ---- items, and what they block
@@ -60,9 +60,44 @@ unfoldable pub blockCount : List Thing → ℕ
 blockCount [] = 0
 blockCount (t ∷ ts) = length (areas t) + blockCount ts
 
--- the grid that a wire finds among the items
+-- ---- seams between keep-outs
+
+-- the unit cell that has q for its high corner lies in the keep-out
+unfoldable pub Covers : Thing → Node → Type 0
+Covers (keep-out i r) q = ((r .x0 < q .x) × (q .x ≤ r .x1)) × ((r .y0 < q .y) × (q .y ≤ r .y1))
+Covers (wire i ps) q = ⊥
+
+unfoldable pub Covered : List Thing → Node → Type 0
+Covered ts q = Any (λ t. Covers t q) ts
+
+-- the two unit cells beside a unit edge, and the four round a node, each by its high corner
+abbrev pub beside : Axis → Node → List Node
+beside level p = step E p ∷ step N (step E p) ∷ []
+beside upright p = step N p ∷ step E (step N p) ∷ []
+
+abbrev pub round : Node → List Node
+round p = p ∷ step E p ∷ step N p ∷ step N (step E p) ∷ []
+
+unfoldable pub Sealed : List Thing → List Node → Type 0
+Sealed ts cells = All (Covered ts) cells
+
+abbrev pub PartOf : Area → Area → Type 0
+PartOf e r = ((r .low .x ≤ e .low .x) × (e .high .x ≤ r .high .x)) × ((r .low .y ≤ e .low .y) × (e .high .y ≤ r .high .y))
+
+-- a unit edge of the run lies between two cells of keep-outs
+unfoldable pub InSeam : List Thing → Area → Type 0
+InSeam ts r = (a : Axis) × (p : Node) × PartOf (edge a p) r × Sealed ts (beside a p)
+
+-- the grid that a wire finds
 abbrev pub gridOf : Size → List Thing → Grid
-gridOf s ts = gridWith (s .w) (s .h) (blocksTo (s .clearance) wires ts)
+gridOf s ts = record { wide = s .w; high = s .h; Open = λ a p. (¬ (Blocked (blocksTo (s .clearance) wires ts) (edge a p))) × (¬ (Sealed ts (beside a p))) }
+
+-- a wire that goes along such a seam
+unfoldable pub Seamed : List Thing → Thing → Type 0
+Seamed ts t = (sortOf t ≡ wires) × Any (InSeam ts) (areas t)
+
+abbrev pub Seamless : List Thing → Type 0
+Seamless ts = All (λ t. ¬ (Seamed ts t)) ts
 
 -- ---- items that may stand together
 
@@ -117,11 +152,17 @@ ThingFits s (wire i ps) = (1 ≤ i) × WireFits s ps
 abbrev pub Below : Thing → Thing → Type 0
 Below t u = idOf t < idOf u
 
-pub record ItemsFit (s : Size) (ts : List Thing) : Type 0 where
+-- each alone and two by two
+pub record ItemsApart (s : Size) (ts : List Thing) : Type 0 where
   pub rising : Pairs Below ts
   pub each : All (ThingFits s) ts
   pub apart : Pairs (Apart (s .clearance)) ts
   pub blocks-few : blockCount ts ≤ most-blocks
+
+-- and no wire goes along a seam between two of them
+pub record ItemsFit (s : Size) (ts : List Thing) : Type 0 where
+  pub two : ItemsApart s ts
+  pub seamless : Seamless ts
 
 -- ---- changes and their undoing
 

@@ -1,4 +1,4 @@
--- Document 01, "Table P, to be proved", its codes 11 as document 02 (order 2) parts them: the list, and what is to be proved of each of its rows.
+-- Document 01, "Table P, to be proved", its codes 11 as document 02 (order 2) parts them and P11 as its order 3 has it: the list, and what is to be proved of each of its rows.
 -- Assumes nothing.
 use Prim.Native.Nat.{ℕ, _≤_}
 use mathlib.Core.List.{List, [], _∷_}
@@ -70,6 +70,6 @@ tableP =
     ∷ row 1 k3 (from 3 2 6 8) (plain 0) 9 0 (at 3 2 ∷ at 6 2 ∷ at 6 8 ∷ [])  -- P8
     ∷ row 1 k3 (from 4 5 8 5) (named 11 1 1) 0 0 []  -- P9
     ∷ row 1 k3 (from 4 5 4 5) (plain 10) 0 0 []  -- P10
-    ∷ row 1 (keep 1 2 2 5 8 ∷ keep 2 5 2 8 8 ∷ []) (from 5 0 5 10) (plain 0) 10 0 (at 5 0 ∷ at 5 10 ∷ [])  -- P11
+    ∷ row 1 (keep 1 2 2 5 8 ∷ keep 2 5 2 8 8 ∷ []) (from 5 0 5 10) (plain 0) 16 3 (at 5 0 ∷ at 8 0 ∷ at 8 10 ∷ at 5 10 ∷ [])  -- P11
     ∷ row 1 [] (from 11 0 0 0) (plain 9) 0 0 []  -- P12
     ∷ []

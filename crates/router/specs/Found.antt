@@ -12,6 +12,7 @@ use Rattle.paper.specs.Grid.{level, upright, gridWith, Block, All, Any}
 use Rattle.paper.specs.Wire.{manhattan}
 use Rattle.paper.specs.Answer.{source, target}
 use Rattle.paper.specs.Laws.Detour.{length-detour}
+use Rattle.paper.specs.Laws.Joins.{joined}
 use Rattle.blocks.specs.Flat.{listed}
 use Rattle.tracks.specs.declared.Tracks.{Tracks}
 use Rattle.tracks.specs.Tracks.{spans}
@@ -58,7 +59,7 @@ module _ (z : Size) (x0 y0 x1 y1 c : List ℕ) (n : ℕ) (p : Pins) (x y : Track
     m = map (x .at) (x .count) (y .at) (y .count) flat tall
 
     abbrev bs : List Block
-    bs = listed (boxAt x0 y0 x1 y1 c) 0 n
+    bs = joined (listed (boxAt x0 y0 x1 y1 c) 0 n)
 
     start : spot m (crossing s) ≡ source p
     start = λ i. record { x = sx .1 i; y = sy .1 i }

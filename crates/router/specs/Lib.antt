@@ -1,8 +1,10 @@
 pub mod Route
 pub mod One
+pub mod Cells
 pub mod Told
 pub mod Telling
 pub mod Charts
 pub mod Joined
+pub mod Pairs
 pub mod Lines
 pub mod Found

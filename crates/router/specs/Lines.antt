@@ -9,7 +9,8 @@ use mathlib.Core.Logic.{inl, inr, ⊎-elim, _↔_}
 use mathlib.Core.List.{List, [], _∷_}
 use lib.ListN.{getD}
 use Rattle.paper.specs.Grid.{Axis, level, upright, Span, Block, Hits, Any, All, Blocked, edge, gridWith}
-use Rattle.paper.specs.Laws.Lists.{any-left, any-right}
+use Rattle.paper.specs.Laws.Lists.{any-left, any-right, any-split}
+use Rattle.paper.specs.Laws.Joins.{joins, joined}
 use Rattle.blocks.specs.Flat.{listed}
 use Rattle.tracks.specs.declared.Tracks.{Tracks}
 use Rattle.tracks.specs.Tracks.{spanAt, spans, AreTracks}
@@ -17,13 +18,14 @@ use Rattle.tracks.specs.Laws.{track-side, track-below, track-rising, track-firs
 use Rattle.distances.specs.Sweep.{Widths}
 use Rattle.distances.specs.Ways.{cell, map}
 use Rattle.edges.specs.Ranges as ranges
-use Rattle.edges.specs.Marks.{boxAt, crossing, Shuts, Shut, Marked}
+use Rattle.edges.specs.Marks.{boxAt, crossing, Shuts, SeamShuts, Shut, Marked}
 use Rattle.walks.specs.Axes.{side}
 use Rattle.walks.specs.Tracks as lines
 use Rattle.walks.specs.Rule.{Tracked, BlockTracked, span}
 use Rattle.walks.specs.Route.{tracks}
 use Rattle.trace.specs.Trail.{marks}
 use Rattle.router.specs.Charts.{tracksIn, Marks}
+use Rattle.router.specs.Pairs.{pair-in, pair-out, joined-tracked}
 
 -- ---- one axis
 
@@ -84,16 +86,23 @@ listed-any P f s zero h = absurd h
 listed-any P f s (suc n) (inl p) = (s, omega arith, p)
 listed-any P f s (suc n) (inr h) = let r = listed-any P f (suc s) n h in (r .0, omega (arith, r .1), r .2)
 
--- a way is shut just if its first unit edge is blocked
-shut-iff : (a : Axis) (xs ys : List ℕ) (b : ℕ → Block) (n i j : ℕ) → Shut a xs ys b n i j ↔ Blocked (listed b 0 n) (edge a (crossing xs ys i j))
-unfolding Blocked Shuts
-shut-iff a xs ys b n i j = (
-  λ s. any-listed (λ k. Hits k (edge a (crossing xs ys i j))) b 0 n (s .0) (omega arith) (omega (arith, s .1)) (s .2),
-  λ h. let r = listed-any (λ k. Hits k (edge a (crossing xs ys i j))) b 0 n h in (r .0, omega (arith, r .1), r .2),
-)
+abbrev HitsAt : Axis → List ℕ → List ℕ → ℕ → ℕ → Block → Type 0
+HitsAt a xs ys i j k = Hits k (edge a (crossing xs ys i j))
+
+-- a way is shut just if its first unit edge is blocked, by a block or by the rectangle of two
+shut-iff : (a : Axis) (xs ys : List ℕ) (b : ℕ → Block) (n i j : ℕ) → Shut a xs ys b n i j ↔ Blocked (joined (listed b 0 n)) (edge a (crossing xs ys i j))
+unfolding Blocked Shuts SeamShuts
+shut-iff a xs ys b n i j =
+    let P : Block → Type 0 = HitsAt a xs ys i j in
+    let bs = listed b 0 n in (
+      λ s. ⊎-elim (λ h. any-left P bs (joins bs) (any-listed P b 0 n (s .0) (omega arith) (omega (arith, s .1)) h))
+          (λ h. any-right P bs (joins bs) (pair-in P b 0 n (s .0) (h .0) (omega arith) (h .1) (omega (arith, s .1)) (h .2))) (s .2),
+      λ h. ⊎-elim (λ p. let r = listed-any P b 0 n p in (r .0, omega (arith, r .1), inl (r .2)))
+          (λ p. let r = pair-out P b 0 n p in (r .0, omega (arith, r .4), inr (r .1, r .3, r .5))) (any-split P bs (joins bs) h),
+    )
 
 clear-iff : (a : Axis) (d xs ys : List ℕ) (nx ny : ℕ) (b : ℕ → Block) (n : ℕ) → Marked a d xs nx ys ny b n
-    → (i j : ℕ) → i < nx → j < ny → (getD d (cell i j) 0 ≡ 0) ↔ (¬ (Blocked (listed b 0 n) (edge a (crossing xs ys i j))))
+    → (i j : ℕ) → i < nx → j < ny → (getD d (cell i j) 0 ≡ 0) ↔ (¬ (Blocked (joined (listed b 0 n)) (edge a (crossing xs ys i j))))
 clear-iff a d xs ys nx ny b n m i j hi hj =
     let s = shut-iff a xs ys b n i j in (
       λ z h. ⊎-elim (λ p. omega (arith, p .1)) (λ p. p .0 (s .1 h)) (m .each i j hi hj),
@@ -104,14 +113,19 @@ clear-iff a d xs ys nx ny b n m i j hi hj =
 
 module _ (w h : ℕ) (x0 y0 x1 y1 c : List ℕ) (n : ℕ) (fx fy : List ℕ) (x y : Tracks)
     (tx : AreTracks (spans n x0 x1 c) w fx x) (ty : AreTracks (spans n y0 y1 c) h fy y) (hw : 1 ≤ w) (hh : 1 ≤ h) where
+  abbrev alone : List Block
+  alone = listed (boxAt x0 y0 x1 y1 c) 0 n
+
   abbrev boxes : List Block
-  boxes = listed (boxAt x0 y0 x1 y1 c) 0 n
+  boxes = joined alone
 
   abbrev both : Axis → lines.Tracks
   both = tracks (tracksIn (x .at) (x .count)) (tracksIn (y .at) (y .count))
 
   pub all-tracked : All (BlockTracked both (gridWith w h boxes)) boxes
-  all-tracked = all-listed (BlockTracked both (gridWith w h boxes)) (boxAt x0 y0 x1 y1 c) 0 n (λ k p q. each k (omega arith))
+  all-tracked =
+      joined-tracked both (gridWith w h boxes) alone
+      (all-listed (BlockTracked both (gridWith w h boxes)) (boxAt x0 y0 x1 y1 c) 0 n (λ k p q. each k (omega arith)))
     where
       each : (k : ℕ) → k < n → (a : Axis) → Tracked (both a) (side a (gridWith w h boxes)) (span a (boxAt x0 y0 x1 y1 c k))
       each k q level = unfold boxAt in to-rule (spans n x0 x1 c) w fx x tx (spanAt x0 x1 c k) (span-in x0 x1 c n k q)

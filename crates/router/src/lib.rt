@@ -11,15 +11,15 @@ use trace::trace;
 use tracks::Tracks;
 use tracks::of_axis;
 ghost use mathlib.Core.Path.{_≡_};
-ghost use Prim.Native.Nat.{ℕ, _+_, _*_, _-_, _<_, _≤_};
+ghost use Prim.Native.Nat.{_-_, _<_, _≤_};
 ghost use lib.ListN.{length, getD};
 ghost use Rattle.paper.specs.Grid.{gridWith};
 ghost use Rattle.paper.specs.Wire.{gap, manhattan};
 ghost use Rattle.paper.specs.Answer.{source, target};
+ghost use Rattle.paper.specs.Laws.Joins.{joined};
 ghost use Rattle.blocks.specs.Flat.{flat, listed, Fits};
 ghost use Rattle.edges.specs.Marks.{boxAt};
 ghost use Rattle.distances.specs.Ways.{map};
-ghost use Rattle.trace.specs.Trail.{crossing};
 ghost use Rattle.router.specs.Route.{Answers, Asked};
 ghost use Rattle.router.specs.Told.{Tells, Ready, Stands, Tracked, detourFor, silence};
 
@@ -144,8 +144,8 @@ fn on_tracks(
     p: Pins,
 ) -> Routed
     requires { ⌜ Tracked size (now x0) (now y0) (now x1) (now y1) (now c) n p x y ⌝ }
-    ensures { λ r. ⌜ Answers (gridWith (size .w) (size .h) (listed (boxAt (now (x0 .entry)) (now (y0 .entry)) (now (x1 .entry))
-        (now (y1 .entry)) (now (c .entry))) 0 n)) (source p) (target p) r ⌝ }
+    ensures { λ r. ⌜ Answers (gridWith (size .w) (size .h) (joined (listed (boxAt (now (x0 .entry)) (now (y0 .entry)) (now (x1 .entry))
+        (now (y1 .entry)) (now (c .entry))) 0 n))) (source p) (target p) r ⌝ }
 {
     let xs = x.at;
     let nx = x.count;
@@ -189,7 +189,7 @@ fn on_tracks(
 // The answered wire between two pins, or why there is none to tell.
 pub fn find_wire(size: Size, held: Blocks, p: Pins) -> Routed
     requires { ⌜ Fits held × Asked size (flat held) p ⌝ }
-    ensures { λ r. ⌜ Answers (gridWith (size .w) (size .h) (flat held)) (source p) (target p) r ⌝ }
+    ensures { λ r. ⌜ Answers (gridWith (size .w) (size .h) (joined (flat held))) (source p) (target p) r ⌝ }
 {
     let last = held.items;
     let n = held.first[last];

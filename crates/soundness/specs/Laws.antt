@@ -15,3 +15,5 @@ pub mod Latest
 pub mod Undone
 -- the whole board
 pub mod Sound
+-- wires along seams
+pub mod Seams

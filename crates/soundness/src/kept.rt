@@ -1,12 +1,13 @@
 // The kept changes, undone in turn.
 use crate::several::joins;
+use crate::several::seamless;
 use items::Found;
 use paper::Board;
 use paper::Item;
 use paper::MOST_CORNERS;
 ghost use mathlib.Core.Path.{_≡_};
-ghost use Prim.Native.Nat.{_+_, _<_, _≤_};
-ghost use Rattle.paper.specs.Layout.{ItemsFit, Undoes};
+ghost use Prim.Native.Nat.{_<_, _≤_};
+ghost use Rattle.paper.specs.Layout.{ItemsApart, ItemsFit, Undoes};
 ghost use Rattle.paper.specs.Laws.Back.{layoutOf};
 ghost use Rattle.paper.specs.Laws.Says.{Says};
 ghost use Rattle.paper.specs.Laws.Standing.{Standing};
@@ -41,9 +42,9 @@ fn same_item(a: Item, b: Item) -> bool
     same_corners(a, b)
 }
 
-// The latest change can be undone, and leaves items that fit: only what comes back is held against the others.
+// The latest change can be undone, and leaves items that fit two by two: only what comes back is held against the others.
 fn goes_back(board: Board) -> bool
-    requires { ⌜ Standing board × ItemsFit (board .size) (layoutOf board .items) × (1 ≤ board .kept) ⌝ }
+    requires { ⌜ Standing board × ItemsApart (board .size) (layoutOf board .items) × (1 ≤ board .kept) ⌝ }
     ensures { λ r. ⌜ GoesBack (layoutOf board) r ⌝ }
 {
     let last = board.kept - 1;
@@ -77,7 +78,11 @@ pub(crate) fn undone_in_turn(board: Board) -> bool
         if !goes_back(left) {
             return false;
         }
-        left = items::undo(left);
+        let next = items::undo(left);
+        if !seamless(next) {
+            return false;
+        }
+        left = next;
     }
     true
 }

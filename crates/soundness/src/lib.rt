@@ -8,9 +8,10 @@ use kept::undone_in_turn;
 use paper::Board;
 use paper::Size;
 use several::items_fit;
+use several::seamless;
 use shape::stands;
 ghost use mathlib.Core.Path.{_≡_};
-ghost use Prim.Native.Nat.{_<_, _≤_};
+ghost use Prim.Native.Nat.{_≤_};
 ghost use Rattle.paper.specs.Layout.{RectFits, InRange, no-bounds};
 ghost use Rattle.paper.specs.Padding.{WellFormed};
 ghost use Rattle.paper.specs.Laws.Says.{Says};
@@ -92,6 +93,9 @@ pub fn sound(board: Board) -> bool
     }
     let items = board.items;
     if !items_fit(board.size, items, board.count) {
+        return false;
+    }
+    if !seamless(board) {
         return false;
     }
     undone_in_turn(board)

@@ -1,15 +1,19 @@
-// Several items: each fits, by rising ids, apart from the others, few enough blocks.
+// Several items: each fits, by rising ids, apart from the others, few enough blocks, and no wire along a seam.
 use crate::single::fits;
+use blocks::of_board;
+use paper::Board;
 use paper::Item;
 use paper::MOST_BLOCKS;
 use paper::Size;
+use seams::crossed;
 ghost use mathlib.Core.Path.{_≡_};
 ghost use Prim.Native.Nat.{_+_, _*_, _<_, _≤_};
 ghost use Rattle.paper.specs.Limits.{most-runs};
 ghost use Rattle.paper.specs.Grid.{All};
-ghost use Rattle.paper.specs.Layout.{blockCount, Apart, ItemsFit};
-ghost use Rattle.paper.specs.Laws.Back.{thingOf};
+ghost use Rattle.paper.specs.Layout.{blockCount, Seamless, Apart, ItemsApart};
+ghost use Rattle.paper.specs.Laws.Back.{thingOf, layoutOf};
 ghost use Rattle.paper.specs.Laws.Says.{Says};
+ghost use Rattle.paper.specs.Laws.Standing.{Standing};
 ghost use Rattle.blocks.specs.Meeting.{Placed};
 ghost use Rattle.items.specs.Items.{Whole};
 ghost use Rattle.soundness.specs.Shape.{thingsOf};
@@ -61,10 +65,10 @@ pub(crate) fn joins(size: Size, items: [Item; MOST_BLOCKS], n: usize, item: Item
     apart_from(items, n, item, size.clearance)
 }
 
-// The first n items fit on a board of the size, with each other. Each is held against those before it.
+// The first n items fit on a board of the size, two by two. Each is held against those before it.
 pub(crate) fn items_fit(size: Size, items: [Item; MOST_BLOCKS], n: usize) -> bool
     requires { ⌜ AllWhole n items ⌝ }
-    ensures { λ r. ⌜ Says r (ItemsFit size (thingsOf n items)) ⌝ }
+    ensures { λ r. ⌜ Says r (ItemsApart size (thingsOf n items)) ⌝ }
 {
     let mut last: u16 = 0;
     let mut i: usize = 0;
@@ -80,4 +84,12 @@ pub(crate) fn items_fit(size: Size, items: [Item; MOST_BLOCKS], n: usize) -> boo
         i += 1;
     }
     true
+}
+
+// No wire goes along a closed seam.
+pub(crate) fn seamless(board: Board) -> bool
+    requires { ⌜ Standing board × ItemsApart (board .size) (layoutOf board .items) ⌝ }
+    ensures { λ r. ⌜ Says r (Seamless (layoutOf board .items)) ⌝ }
+{
+    !crossed(of_board(board, false))
 }

@@ -12,7 +12,7 @@ pub type Corners = Vec<Point>;
 
 /// A wire of any sort on the maker's board.
 pub fn any(maker: &mut Maker) -> Corners {
-    match maker.rng.weighted(&[26, 22, 26, 14, 12]) {
+    match maker.rng.weighted(&[24, 20, 24, 12, 10, 10]) {
         0 => answered(maker),
         1 => {
             let corners = answered(maker);
@@ -20,6 +20,7 @@ pub fn any(maker: &mut Maker) -> Corners {
         }
         2 => roaming(maker),
         3 => along_a_block(maker),
+        4 => along_a_seam(maker),
         _ => blind(maker),
     }
 }
@@ -170,6 +171,41 @@ fn along_a_block(maker: &mut Maker) -> Corners {
         let Rect { x0, y0, x1, y1 } = Rect::spanned(corners[0], corners[1]);
         corners[0] = Point::new(maker.rng.range(x0, x1), maker.rng.range(y0, y1));
     }
+    corners
+}
+
+/// A way along a seam between keep-outs, along a part of it, or only up to its end,
+/// perhaps with a run across at either end. A block's side where there is no seam.
+fn along_a_seam(maker: &mut Maker) -> Corners {
+    let seams: Vec<Rect> = maker.board.cover().seams().collect();
+    if seams.is_empty() {
+        return along_a_block(maker);
+    }
+    let seam = maker.rng.pick(&seams);
+    let upright = seam.x0 == seam.x1;
+    let (low, high) = if upright { (seam.y0, seam.y1) } else { (seam.x0, seam.x1) };
+    let reach = mix(maker).reach.min(high - low + 2);
+    let (frame, rng) = (maker.frame(), &mut maker.rng);
+    let (from, to) = match rng.range(0, 4) {
+        0 => (low - rng.range(0, reach), high + rng.range(0, reach)),
+        1 => (low - rng.range(1, reach), low),
+        2 => (high, high + rng.range(1, reach)),
+        3 => (low - rng.range(1, reach), low + 1),
+        _ => (low, rng.range(low + 1, high)),
+    };
+    let node = |along: i32, aside: i32| {
+        let (x, y) = if upright { (seam.x0 + aside, along) } else { (along, seam.y0 + aside) };
+        frame.nearest(Point::new(x, y))
+    };
+    let mut corners = vec![node(from, 0), node(to, 0)];
+    let aside = rng.pick(&[-reach, -1, 1, reach]);
+    if rng.chance(50) {
+        corners.insert(0, node(from, aside));
+    }
+    if rng.chance(50) {
+        corners.push(node(to, aside));
+    }
+    corners.dedup();
     corners
 }
 

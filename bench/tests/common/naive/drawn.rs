@@ -58,7 +58,7 @@ impl Naive {
                 return format!("{code} {run}");
             }
         }
-        let steps = open_steps((w, h), &self.blocks());
+        let steps = open_steps((w, h), &self.blocks(), &self.covered(None));
         let shortest = lengths((w, h), &steps, t)[(s.1 * (w + 1) + s.0) as usize];
         let shortest = shortest.expect("the drawn wire is a way from s to t");
         format!("0 {}", unit_edges(&corners).count() - shortest)
@@ -77,6 +77,10 @@ impl Naive {
                     return Some(20);
                 }
             }
+        }
+        let covered = self.covered(None);
+        if unit_edges(&[p, q]).any(|edge| covered.shuts(edge)) {
+            return Some(20);
         }
         for (_, thing) in &self.things {
             if let Thing::Wire(corners) = thing {

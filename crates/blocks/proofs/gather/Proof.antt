@@ -9,7 +9,7 @@ use Rattle.paper.specs.Limits.{most-blocks}
 use Rattle.paper.specs.Layout.{wires, blocksTo}
 use Rattle.paper.specs.Laws.Back.{layoutOf}
 use Rattle.blocks.specs.Flat.{flatOf, starts}
-use Rattle.blocks.specs.Laws.Board.{Drawn, drawn, item-at, room-at, held-more, held-all}
+use Rattle.blocks.specs.Laws.Board.{Drawn, item-at, room-at, held-more, held-all}
 use Rattle.blocks.proofs.gather.Statement.{statement}
 use Rattle.blocks.proofs.gather.Tie as tie
 
@@ -20,7 +20,7 @@ abbrev μ-loop : tie.MeasureT-loop
 μ-loop c board n out₀ i₀ out i = n - i
 
 known : (s : tie.Start Inv-loop μ-loop) → Drawn (s .args .t1) (layoutOf (s .args .t1) .items)
-known s = drawn _ (s .pre)
+known s = s .pre
 
 -- item i is among them
 here : (t : tie.In-loop Inv-loop μ-loop) → t .before .loop .i < length (layoutOf (t .before .before .before .args .t1) .items)

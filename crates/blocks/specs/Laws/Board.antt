@@ -43,9 +43,9 @@ sound-drawn l (inl e) =
 sound-drawn l (inr p) = record {
   count-is = refl;
   items-are = refl;
-  fit = p .fits .each;
-  items-few = omega (arith, items-few (l .size) (l .items) (p .fits .each), p .fits .blocks-few);
-  blocks-few = p .fits .blocks-few;
+  fit = p .fits .two .each;
+  items-few = omega (arith, items-few (l .size) (l .items) (p .fits .two .each), p .fits .two .blocks-few);
+  blocks-few = p .fits .two .blocks-few;
 }
 
 pub drawn : (b : Board) → WellFormed b → Drawn b (layoutOf b .items)

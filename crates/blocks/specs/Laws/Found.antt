@@ -3,8 +3,8 @@
 use Prim.Native.Nat.{ℕ, zero, suc, _<_}
 use native.Mathlib.Nat.{eq-or-lt-of-le}
 use native.Mathlib.Omega.{arith}
-use mathlib.Core.Path.{_≡_, refl, sym, ap, subst, _∙_}
-use mathlib.Core.Bool.{Bool, true, false}
+use mathlib.Core.Path.{_≡_, refl, sym, ap, subst}
+use mathlib.Core.Bool.{Bool, true}
 use mathlib.Core.Logic.{inl, inr, ⊎-elim}
 use mathlib.Core.List.{List, [], _∷_}
 use lib.ListN.{length}
@@ -19,7 +19,7 @@ use Rattle.paper.specs.Laws.Says.{Says, says-always, says-never}
 use Rattle.blocks.specs.declared.Blocks.{Blocks}
 use Rattle.blocks.specs.declared.Place.{Place}
 use Rattle.blocks.specs.declared.Look.{Look}
-use Rattle.blocks.specs.declared.Look.the-variants.{KeepOuts, Wires, Either}
+use Rattle.blocks.specs.declared.Look.the-variants.{KeepOuts, Wires}
 use Rattle.blocks.specs.declared.Found.{Found}
 use Rattle.blocks.specs.declared.Found.the-variants.{At, Nothing}
 use Rattle.blocks.specs.Flat.{placeArea, looked, Stops, FirstIs, isFound, Hit, isWire, Held, HeldOf}
@@ -51,13 +51,13 @@ FoundAmong P ts (At i) = FirstOf P ts i
 FoundAmong P ts Nothing = ¬ (Any P ts)
 
 module _ (P : Thing → Type 0) where
-  first-of : (ts : List Thing) (i : ℕ) → i < length ts → P (thingAt ts i) → ((j : ℕ) → j < i → ¬ (P (thingAt ts j))) → FirstOf P ts i
+  pub first-of : (ts : List Thing) (i : ℕ) → i < length ts → P (thingAt ts i) → ((j : ℕ) → j < i → ¬ (P (thingAt ts j))) → FirstOf P ts i
   unfolding FirstOf
   first-of [] i h p n = absurd (omega arith)
   first-of (t ∷ ts) zero h p n = p
   first-of (t ∷ ts) (suc i) h p n = (n 0 (omega arith), first-of ts i (omega arith) p (λ j l. n (suc j) (omega arith)))
 
-  some-at : (ts : List Thing) → Any P ts → (i : ℕ) × (i < length ts) × P (thingAt ts i)
+  pub some-at : (ts : List Thing) → Any P ts → (i : ℕ) × (i < length ts) × P (thingAt ts i)
   unfolding Any
   some-at [] a = absurd a
   some-at (t ∷ ts) (inl p) = (0, omega arith, p)
@@ -86,13 +86,13 @@ unfoldable pub StopsAt : ℕ → Sort → Look → Place → Thing → Type 0
 StopsAt c to look p t = (looked look (isWire t) ≡ true) × Blocked (blocksOf c to t) (placeArea p)
 
 module _ {b : Blocks} {c : ℕ} {to : Sort} {ts : List Thing} (held : Held b c to ts) (look : Look) (p : Place) where
-  stops-thing : (i : ℕ) → Stops b look p i → (i < length ts) × StopsAt c to look p (thingAt ts i)
+  pub stops-thing : (i : ℕ) → Stops b look p i → (i < length ts) × StopsAt c to look p (thingAt ts i)
   unfolding Stops StopsAt
   stops-thing i s =
       let h : i < length ts = rw (held .same, items-are) at (s .0) in
       (h, (rw (held-wire held i) at (s .1), subst (λ bs. Blocked bs (placeArea p)) (held-blocks held i h) (s .2)))
 
-  thing-stops : (i : ℕ) → i < length ts → StopsAt c to look p (thingAt ts i) → Stops b look p i
+  pub thing-stops : (i : ℕ) → i < length ts → StopsAt c to look p (thingAt ts i) → Stops b look p i
   unfolding Stops StopsAt
   thing-stops i h s = (
     rw (held .same, items-are) h,
@@ -129,13 +129,13 @@ lookFor wires = Wires
 abbrev pub rectPlace : Rect → Place
 rectPlace r = record { x0 = r .x0; y0 = r .y0; x1 = r .x1; y1 = r .y1 }
 
-looked-sort : (s : Sort) (t : Thing) → looked (lookFor s) (isWire t) ≡ true → sortOf t ≡ s
+pub looked-sort : (s : Sort) (t : Thing) → looked (lookFor s) (isWire t) ≡ true → sortOf t ≡ s
 looked-sort keep-outs (keep-out i r) e = refl
 looked-sort keep-outs (wire i ps) e = absurd (subst T (sym e) tt)
 looked-sort wires (keep-out i r) e = absurd (subst T (sym e) tt)
 looked-sort wires (wire i ps) e = refl
 
-own-sort : (t : Thing) → looked (lookFor (sortOf t)) (isWire t) ≡ true
+pub own-sort : (t : Thing) → looked (lookFor (sortOf t)) (isWire t) ≡ true
 own-sort (keep-out i r) = refl
 own-sort (wire i ps) = refl
 
@@ -165,12 +165,3 @@ hit-says b look p P r each h = subst (λ r. Says r P) (sym (h .2)) (says-whether
 pub hit-any : {b : Blocks} (l : Layout) (to : Sort) → HeldOf b to l → (p : Place) (a : Area) → placeArea p ≡ a → (s : Sort) (r : Bool)
     → Hit b (lookFor s) p r → Says r (Any (Bars l to s a) (l .items))
 hit-any l to held p a e s r h = subst (λ a. Says r (Any (Bars l to s a) (l .items))) e (hit-says _ (lookFor s) p _ r (scan-any l to held p s) h)
-
--- where nothing at all blocks the place, nothing of a sort does
-pub hit-none : (b : Blocks) (p : Place) (r : Bool) → r ≡ false → Hit b Either p r → (look : Look) → FirstIs b look p Nothing
-unfolding Hit
-hit-none b p r z h look = go (h .0) (h .1) (h .2)
-  where
-    go : (f : Found) → FirstIs b Either p f → r ≡ isFound f → FirstIs b look p Nothing
-    go (At i) f e = absurd (subst T (sym e ∙ z) tt)
-    go Nothing f e = unfold FirstIs Stops in λ j s. f j (s .0, refl, s .2)

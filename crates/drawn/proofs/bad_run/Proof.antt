@@ -25,7 +25,7 @@ loop-holds : tie.Need-loop-holds Inv-loop μ-loop
 loop-holds c = (omega arith, left-start _ _ (c .args .item) _ (long-x c) (long-y c) (c .pre .1))
 
 run-fault-requires : tie.Need-run-fault-requires Inv-loop μ-loop
-run-fault-requires c κs = (c .before .before .pre .0, omega (arith, c .before .before .pre .1))
+run-fault-requires c κs = let s = c .before .before in (s .pre .0, omega (arith, s .pre .1), s .pre .2 _ (c .loop-test .taken))
 
 returns : tie.Need-returns Inv-loop μ-loop
 returns c = let l = c .before .before .before .before in

@@ -8,6 +8,7 @@ use Rattle.paper.specs.Laws.Says.{denied, not-denied}
 use Rattle.blocks.specs.declared.Look.the-variants.{KeepOuts, Wires}
 use Rattle.blocks.specs.Growing.{cornerAt}
 use Rattle.blocks.specs.Flat.{Hit}
+use Rattle.seams.specs.Seaming.{HitOr}
 use Rattle.drawn.specs.Laws.Places.{off-first, off-second, keep-out-there, wire-there, none-there}
 use Rattle.drawn.proofs.run_fault.Statement.{statement}
 use Rattle.drawn.proofs.run_fault.Tie as tie
@@ -43,8 +44,8 @@ returns-2 c = off-second _ _ _ _ (denied (c .before .before .on-board2 .ensures)
 stretch-requires : tie.Need-stretch-requires
 stretch-requires c κs = search needs
 
-hit-requires : tie.Need-hit-requires
-hit-requires c κs = search needs
+entered-requires : tie.Need-entered-requires
+entered-requires c κs = c .before .before .before .before .before .pre .0
 
 fault-at-requires-3 : tie.Need-fault-at-requires-3
 fault-at-requires-3 c κs = search needs
@@ -52,11 +53,12 @@ fault-at-requires-3 c κs = search needs
 returns-3 : tie.Need-returns-3
 returns-3 c =
     let t = c .before .before .before in
-    keep-out-there _ _ _ _ (first (t .before .before .before)) (second (t .before)) _ (t .stretch .ensures)
-    (subst (Hit _ KeepOuts _) (c .before .if3 .taken) (c .before .before .hit .ensures)) _ (c .fault-at3 .ensures)
+    let e = t .before .before .before in
+    keep-out-there _ _ _ _ (first e) (second (t .before)) (e .before .before .pre .2) _ (t .stretch .ensures)
+    (subst (HitOr _ KeepOuts _ _) (c .before .if3 .taken) (c .before .before .entered .ensures)) _ (c .fault-at3 .ensures)
 
-hit-requires-2 : tie.Need-hit-requires-2
-hit-requires-2 c κs = search needs
+hit-requires : tie.Need-hit-requires
+hit-requires c κs = c .before .before .before .before .before .before .before .pre .0 .fits
 
 fault-at-requires-4 : tie.Need-fault-at-requires-4
 fault-at-requires-4 c κs = search needs
@@ -65,15 +67,17 @@ returns-4 : tie.Need-returns-4
 returns-4 c =
     let h = c .before .before .before in
     let t = h .before .before in
-    wire-there _ _ _ _ (first (t .before .before .before)) (second (t .before)) _ (t .stretch .ensures)
-    (subst (Hit _ KeepOuts _) (h .if3 .left) (h .before .hit .ensures)) (subst (Hit _ Wires _) (c .before .if4 .taken) (c .before .before .hit2 .ensures)) _ (c .fault-at4 .ensures)
+    let e = t .before .before .before in
+    wire-there _ _ _ _ (first e) (second (t .before)) (e .before .before .pre .2) _ (t .stretch .ensures) (subst (HitOr _ KeepOuts _ _) (h .if3 .left) (h .before .entered .ensures))
+    (subst (Hit _ Wires _) (c .before .if4 .taken) (c .before .before .hit .ensures)) _ (c .fault-at4 .ensures)
 
 returns-5 : tie.Need-returns-5
 returns-5 c =
     let h = c .before .before in
     let t = h .before .before in
-    none-there _ _ _ _ (first (t .before .before .before)) (second (t .before)) _ (t .stretch .ensures)
-    (subst (Hit _ KeepOuts _) (h .if3 .left) (h .before .hit .ensures)) (subst (Hit _ Wires _) (c .if4 .left) (c .before .hit2 .ensures)) _ refl
+    let e = t .before .before .before in
+    none-there _ _ _ _ (first e) (second (t .before)) (e .before .before .pre .2) _ (t .stretch .ensures) (subst (HitOr _ KeepOuts _ _) (h .if3 .left) (h .before .entered .ensures))
+    (subst (Hit _ Wires _) (c .if4 .left) (c .before .hit .ensures)) _ refl
 
 pub run-fault-spec : {M : Type 1} → statement M
 run-fault-spec =
@@ -87,10 +91,10 @@ run-fault-spec =
     fault-at-requires-2
     returns-2
     stretch-requires
-    hit-requires
+    entered-requires
     fault-at-requires-3
     returns-3
-    hit-requires-2
+    hit-requires
     fault-at-requires-4
     returns-4
     returns-5)

@@ -2,6 +2,7 @@
 -- Assumes nothing.
 use Prim.Native.Nat.{_≤_, _-_}
 use native.Mathlib.Omega.{arith}
+use mathlib.Core.Path.{_∙_}
 use borrow.Author.Needs.{needs}
 use Rattle.paper.specs.Grid.{level, upright}
 use Rattle.edges.specs.Marks.{boxAt, Marked}
@@ -30,6 +31,13 @@ mark-block-requires c κs =
     let p = l .before .pre in
     (l .loop .inv .1 .long, l .loop .inv .2 .long, p .2, p .3, p .5, p .6)
 
+mark-seams-requires : tie.Need-mark-seams-requires Inv-loop μ-loop
+mark-seams-requires c κs =
+    let m = c .before .before in
+    let l = m .before .before .before .before .before in
+    let p = l .before .pre in
+    (m .mark-block .ensures .0 .long ∙ l .loop .inv .1 .long, m .mark-block .ensures .1 .long ∙ l .loop .inv .2 .long, p .2, p .3, p .5, p .6, omega (arith, m .before .before .before .before .loop-test .taken, p .4))
+
 add-k : tie.Need-add-k Inv-loop μ-loop
 add-k c = search needs
 
@@ -38,9 +46,13 @@ loop-less c = search needs
 
 loop-again : tie.Need-loop-again Inv-loop μ-loop
 loop-again c =
-    let l = c .before .before .before .before .before in
-    let m = rw (c .before .box-at .ensures) at (c .mark-block .ensures) in
-    (search needs, marked-more level _ _ _ _ _ _ _ _ (l .loop .inv .1) (m .0), marked-more upright _ _ _ _ _ _ _ _ (l .loop .inv .2) (m .1))
+    let b = c .before .before .before in
+    let l = b .before .before .before .before .before in
+    let m = rw (b .before .box-at .ensures) at (b .mark-block .ensures) in (
+      search needs,
+      marked-more level _ _ _ _ _ _ _ _ _ (l .loop .inv .1) (m .0) (c .mark-seams .ensures .0),
+      marked-more upright _ _ _ _ _ _ _ _ _ (l .loop .inv .2) (m .1) (c .mark-seams .ensures .1),
+    )
 
 returns : tie.Need-returns Inv-loop μ-loop
 returns c =
@@ -50,4 +62,4 @@ returns c =
 pub edges-spec : {M : Type 1} → statement M
 edges-spec =
     tie.close
-    (tie.spec Inv-loop μ-loop loop-holds box-at-requires mark-block-requires add-k loop-less loop-again returns)
+    (tie.spec Inv-loop μ-loop loop-holds box-at-requires mark-block-requires mark-seams-requires add-k loop-less loop-again returns)

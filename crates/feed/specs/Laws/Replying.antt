@@ -100,7 +100,7 @@ module _ (b : Board) (w : WellFormed b) where
 
   -- an item of the board is a block or more
   pub items-few-now : ¬ (BeforeBounds (layoutOf b)) → length (layoutOf b .items) ≤ blockCount (layoutOf b .items)
-  items-few-now n = items-few (layoutOf b .size) (layoutOf b .items) (laid-now b w n .fits .each)
+  items-few-now n = items-few (layoutOf b .size) (layoutOf b .items) (laid-now b w n .fits .two .each)
 
   pub keep-out-asks : (i : Id) (r : Rect) (m : Item) → KeepOutCode (layoutOf b) i r 0 → m ≡ itemOf (keep-out (i .number) r)
       → Standing b × Whole m × Room (layoutOf b)
@@ -149,7 +149,7 @@ module _ (b : Board) (w : WellFormed b) where
         some = h;
         room = λ c cs e.
             let u : Undoes (layoutOf b .size) (layoutOf b .items) (c ∷ cs) = subst (Undoes (layoutOf b .size) (layoutOf b .items)) e (L .undoes) in
-            omega (arith, items-few (layoutOf b .size) (undo c (layoutOf b .items)) (u .1 .each), u .1 .blocks-few);
+            omega (arith, items-few (layoutOf b .size) (undo c (layoutOf b .items)) (u .1 .two .each), u .1 .two .blocks-few);
       }
 
   pub undo-set : (r : Board) → ¬ (BeforeBounds (layoutOf b)) → Undone (layoutOf b) r → Quietly (layoutOf b) Undo (refusing (plain 0) r)

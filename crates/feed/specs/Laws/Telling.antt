@@ -201,7 +201,7 @@ module _ (b : Board) (wf : WellFormed b) (p : Pins) (s : List ℕ) where
       lent = lent-ok (layoutOf b) (length s) g .1;
       blocks = h .blocks z;
       items-few = items-few-now b wf (lent-ok (layoutOf b) (length s) g .0);
-      blocks-few = laid-now b wf (lent-ok (layoutOf b) (length s) g .0) .fits .blocks-few;
+      blocks-few = laid-now b wf (lent-ok (layoutOf b) (length s) g .0) .fits .two .blocks-few;
       two = corners-two (layoutOf b) p w h z;
       few = corners-few (layoutOf b) p w h z;
       whole = whole (layoutOf b) p w h z (i .number);

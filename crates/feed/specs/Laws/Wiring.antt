@@ -1,4 +1,4 @@
--- Wires: what the scan says of pins and rectangles, what the router's answer says of the codes, and the replies that tell a wire.
+-- Wires: what the scans say of pins, what the router's answer says of the codes, and the replies that tell a wire.
 -- Assumes nothing.
 use Prim.Native.Nat.{ℕ, zero, suc, _-_, _≤_, _<_}
 use native.Mathlib.Omega.{arith}
@@ -7,16 +7,15 @@ use mathlib.Core.Bool.{Bool, true, false}
 use mathlib.Core.Logic.{_⊎_, inl, inr, ⊎-elim}
 use mathlib.Core.List.{List, [], _∷_, _++_, map}
 use lib.ListN.{length}
-use Rattle.paper.specs.declared.Rect.{Rect}
 use Rattle.paper.specs.declared.Pins.{Pins}
 use Rattle.paper.specs.declared.Size.{Size}
 use Rattle.paper.specs.declared.Verdict.{Verdict}
 use Rattle.paper.specs.Limits.{most-corners}
-use Rattle.paper.specs.Grid.{Node, Dir, Grid, Any, Pairs, Blocked, node, step, rank}
+use Rattle.paper.specs.Grid.{Node, Dir, Grid, Any, Pairs, Blocked, node, step, rank, gridWith}
 use Rattle.paper.specs.Wire.{Legal, Answered, corners, turns, runs}
-use Rattle.paper.specs.Layout.{Thing, wire, idOf, Sort, keep-outs, wires, rectangle, Below, blocksTo, blockCount, gridOf, OnBoard, Layout, InRange}
+use Rattle.paper.specs.Layout.{Thing, wire, idOf, Sort, keep-outs, wires, Below, blocksTo, blockCount, gridOf, OnBoard, Layout, InRange}
 use Rattle.paper.specs.Padding.{filled}
-use Rattle.paper.specs.Answer.{named, plain, _if_, Gives, source, target, Bars, Enters, Blocking, NoWire, TheWire, way, TooManyRuns, pinChecks}
+use Rattle.paper.specs.Answer.{named, plain, _if_, Gives, source, target, BarsNode, Blocking, NoWire, TheWire, way, TooManyRuns, pinChecks}
 use Rattle.paper.specs.Laws.Back.{length-runs}
 use Rattle.paper.specs.Laws.Checks.{Coded, Clear, clear-of, of-clear, clear-join, gives-first, gives-then}
 use Rattle.paper.specs.Laws.Drawn.{none-among}
@@ -24,25 +23,24 @@ use Rattle.paper.specs.Laws.Lists.{any-imp}
 use Rattle.paper.specs.Laws.Smallest.{HasId, above}
 use Rattle.paper.specs.Laws.Standing.{thingAt}
 use Rattle.paper.specs.Laws.Least.{one-answer}
-use Rattle.paper.specs.Laws.Says.{Says}
+use Rattle.paper.specs.Laws.Says.{said}
+use Rattle.paper.specs.Laws.Covering.{inside-barred}
+use Rattle.paper.specs.Laws.Joins.{joined}
 use Rattle.blocks.specs.declared.Blocks.{Blocks}
 use Rattle.blocks.specs.declared.Found.{Found}
 use Rattle.blocks.specs.declared.Found.the-variants.{At, Nothing}
-use Rattle.blocks.specs.Flat.{flat, Fits, FirstIs, Hit, HeldOf}
+use Rattle.blocks.specs.Flat.{flat, Fits, HeldOf}
 use Rattle.blocks.specs.Laws.Held.{held-fits, flat-held}
-use Rattle.blocks.specs.Laws.Found.{FirstOf, FoundAmong, lookFor, rectPlace, scan-sort, hit-any}
+use Rattle.blocks.specs.Laws.Found.{FirstOf, FoundAmong, scan-sort}
+use Rattle.seams.specs.Laws.Sunk.{round-found}
 use Rattle.router.specs.declared.Route.{Route}
 use Rattle.router.specs.declared.Route.the-variants.{Wire, NoWire as NoRoute, TooManyRuns as ManyRuns}
 use Rattle.router.specs.declared.Routed.{Routed}
 use Rattle.router.specs.Route.{Found as Told, Written, Answers, Asked}
 use Rattle.router.specs.One.{routes-of}
+use Rattle.router.specs.Cells.{answers-cells}
 use Rattle.feed.specs.declared.wires.Stop.{Stop}
-use Rattle.feed.specs.Feeding.{hereIs, noStop, StopsPin, oneChecks, startChecks, PinsSaid, StopsPins, noWire, wiredBy, wiredOf, Spelled, Wires}
-
--- ---- what the scan says
-
-pub hit-enters : (b : Blocks) (l : Layout) → HeldOf b keep-outs l → (q : Rect) (s : Sort) (r : Bool) → Hit b (lookFor s) (rectPlace q) r → Says r (Enters l q s)
-hit-enters b l held q s r h = hit-any l keep-outs held (rectPlace q) (rectangle q) refl s r h
+use Rattle.feed.specs.Feeding.{noStop, FirstAt, StopsPin, oneChecks, startChecks, PinsSaid, StopsPins, noWire, wiredBy, wiredOf, Spelled, Wires}
 
 -- ---- the smallest id
 
@@ -68,20 +66,22 @@ module _ (P : Thing → Type 0) where
 
 -- what stops a pin, in the words of its checks
 module _ (b : Blocks) (l : Layout) (held : HeldOf b wires l) (rising : Pairs Below (l .items)) (p : Node) where
-  among : (of : Sort) (f : Found) → FirstIs b (lookFor of) (hereIs (p .x) (p .y)) f → FoundAmong (Bars l wires of (node p)) (l .items) f
-  among of f h = scan-sort l wires held (hereIs (p .x) (p .y)) of f h
+  among : (of : Sort) (f : Found) → FirstAt b of (p .x) (p .y) f → FoundAmong (BarsNode l of p) (l .items) f
+  unfolding FirstAt BarsNode
+  among keep-outs f h = round-found held (p .x) (p .y) f h
+  among wires f h = scan-sort l wires held _ wires f h
 
-  none : (of : Sort) → FirstIs b (lookFor of) (hereIs (p .x) (p .y)) Nothing → (j : ℕ) → ¬ (Blocking l of p j)
+  none : (of : Sort) → FirstAt b of (p .x) (p .y) Nothing → (j : ℕ) → ¬ (Blocking l of p j)
   unfolding FoundAmong
-  none of h = none-named (Bars l wires of (node p)) (l .items) (among of Nothing h)
+  none of h = none-named (BarsNode l of p) (l .items) (among of Nothing h)
 
-  first : (of : Sort) (i : ℕ) → FirstIs b (lookFor of) (hereIs (p .x) (p .y)) (At i)
+  first : (of : Sort) (i : ℕ) → FirstAt b of (p .x) (p .y) (At i)
       → (i < length (l .items)) × Blocking l of p (idOf (thingAt (l .items) i)) × ((k : ℕ) → Blocking l of p k → idOf (thingAt (l .items) i) ≤ k)
   unfolding FoundAmong
-  first of i h = first-named (Bars l wires of (node p)) (l .items) i rising (among of (At i) h)
+  first of i h = first-named (BarsNode l of p) (l .items) i rising (among of (At i) h)
 
   -- an item stops it, or nothing does
-  stopped : (pin : ℕ) (r : Stop) → StopsPin b (hereIs (p .x) (p .y)) pin r
+  stopped : (pin : ℕ) (r : Stop) → StopsPin b (p .x) (p .y) pin r
       → ((r .pin ≡ pin) × (¬ (r .code ≡ 0)) × (r .item < length (l .items)) × Gives (oneChecks l pin p) (named (r .code) pin (idOf (thingAt (l .items) (r .item)))))
       ⊎ ((r ≡ noStop 0) × Clear (oneChecks l pin p))
   unfolding StopsPin Gives Clear
@@ -120,7 +120,7 @@ module _ (s : Size) (b : Blocks) (p : Pins) where
       unfolding Gives
       on-two l z v g = inr (sized l z on, inr (two, g))
 
-      pub stop-first : (r : Stop) → StopsPin b (hereIs (p .sx) (p .sy)) 1 r → ¬ (r .code ≡ 0) → StopsPins s b p r
+      pub stop-first : (r : Stop) → StopsPin b (p .sx) (p .sy) 1 r → ¬ (r .code ≡ 0) → StopsPins s b p r
       unfolding StopsPins
       stop-first r h n l z held rising =
           ⊎-elim
@@ -134,7 +134,7 @@ module _ (s : Size) (b : Blocks) (p : Pins) where
           (λ k. absurd (n (ap (λ r. r .code) (k .0))))
           (stopped b l held rising (source p) 1 r h)
 
-      pub stop-second : (q : Stop) → StopsPin b (hereIs (p .sx) (p .sy)) 1 q → q .code ≡ 0 → (r : Stop) → StopsPin b (hereIs (p .tx) (p .ty)) 2 r → StopsPins s b p r
+      pub stop-second : (q : Stop) → StopsPin b (p .sx) (p .sy) 1 q → q .code ≡ 0 → (r : Stop) → StopsPin b (p .tx) (p .ty) 2 r → StopsPins s b p r
       unfolding StopsPins
       stop-second q g c r h l z held rising = ⊎-elim (λ k. absurd (k .1 c)) (λ k. after (k .1)) (stopped b l held rising (source p) 1 q g)
         where
@@ -179,7 +179,9 @@ pub record Started (l : Layout) (p : Pins) : Type 0 where
 -- no item blocks the node, of either sort
 pub clear-node : (l : Layout) (p : Node) → ((j : ℕ) → ¬ (Blocking l keep-outs p j)) → ((j : ℕ) → ¬ (Blocking l wires p j))
     → ¬ (Blocked (blocksTo (l .size .clearance) wires (l .items)) (node p))
-clear-node l p k w = none-among l (node p) (l .items) (some-named _ (l .items) k) (some-named _ (l .items) w)
+unfolding BarsNode
+clear-node l p k w =
+    none-among l (node p) (l .items) (λ a. some-named (BarsNode l keep-outs p) (l .items) k (inside-barred l p a)) (some-named (BarsNode l wires p) (l .items) w)
 
 pub start-clear : (l : Layout) (p : Pins) (v : Verdict) → v .code ≡ 0 → Gives (startChecks l p) v → Clear (startChecks l p)
 start-clear l p v z g = clear-of (startChecks l p) v z (start-coded l p) g
@@ -239,11 +241,11 @@ module _ (l : Layout) (p : Pins) (g : Clear (startChecks l p)) where
     wire = λ z. absurd (omega arith);
   }
 
-pub wires-told : (b : Blocks) (l : Layout) (p : Pins) (r : Routed) (n : ℕ) → HeldOf b wires l → Clear (startChecks l p)
-    → Answers (Rattle.paper.specs.Grid.gridWith (l .size .w) (l .size .h) (flat b)) (source p) (target p) r → n ≡ blockCount (l .items) → Wires l p (wiredOf r n)
-wires-told b l p r n held g a e =
-    let c : Answers (gridOf (l .size) (l .items)) (source p) (target p) r = rw (flat-held held) at a in
-    let h = routes-of (gridOf (l .size) (l .items)) (source p) (target p) (r .route) (r .xs) (r .ys) c in
+pub wires-told : (b : Blocks) (l : Layout) (p : Pins) (r : Routed) (n : ℕ) → HeldOf b wires l → InRange (l .size) → Clear (startChecks l p)
+    → Answers (gridWith (l .size .w) (l .size .h) (joined (flat b))) (source p) (target p) r → n ≡ blockCount (l .items) → Wires l p (wiredOf r n)
+wires-told b l p r n held range g a e =
+    let c : Answers (gridWith (l .size .w) (l .size .h) (joined (blocksTo (l .size .clearance) wires (l .items)))) (source p) (target p) r = rw (flat-held held) at a in
+    let h = routes-of (gridOf (l .size) (l .items)) (source p) (target p) (r .route) (r .xs) (r .ys) (answers-cells (l .size) (l .items) (source p) (target p) r (range .2 .0) c) in
     wires-by l p g (r .route) (h .turned) (r .xs) (r .ys) n e (h .found) (h .written) (h .xs-are) (h .ys-are)
 
 -- ---- how many corners

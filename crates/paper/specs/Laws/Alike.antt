@@ -15,7 +15,7 @@ use Rattle.paper.specs.Grid.{Node}
 use Rattle.paper.specs.Layout.{Thing, wire, gridOf, Turn, without, Layout, fresh}
 use Rattle.paper.specs.Padding.{boardOf, WellFormed}
 use Rattle.paper.specs.Reading.{Reads}
-use Rattle.paper.specs.Answer.{Check, Bars, verdict, source, target, way, checks, addTo, Outcome, quiet, told, Does, Tells, left, Replies, Fed}
+use Rattle.paper.specs.Answer.{Check, Bars, Closes, BarsNode, verdict, source, target, way, checks, addTo, Outcome, quiet, told, Does, Tells, left, Replies, Fed}
 use Rattle.paper.specs.History.{Call, FedAll, SameItems, Alike}
 use Rattle.paper.specs.Laws.Least.{one-answer}
 use Rattle.paper.specs.Laws.Back.{thingOf, layoutOf, held}
@@ -51,7 +51,7 @@ plain o = record { long = o .long; away = o .away; turned = o .turned; layout = 
 
 module _ (z : Size) (ts : List Thing) (k₁ k₂ : List Turn) where
   same-checks : (rec : Record) (n : ℕ) → ¬ (rec ≡ Undo) → _≡_ {A = List Check} (checks (keeping z ts k₁) rec n) (checks (keeping z ts k₂) rec n)
-  unfolding checks Bars
+  unfolding checks Bars Closes BarsNode
   same-checks Malformed n u = refl
   same-checks (Bounds b) n u = refl
   same-checks (KeepOut i r) n u = refl

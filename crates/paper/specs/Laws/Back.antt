@@ -110,9 +110,9 @@ pub turns-fit : (s : Size) (ts : List Thing) (cs : List Turn) → ItemsFit s ts 
 unfolding All Undoes
 turns-fit s ts [] p h = tt
 turns-fit s ts (added t ∷ cs) p h =
-    (unfold CanUndo in all-has (ThingFits s) ts t (p .each) (h .0), turns-fit s (undo (added t) ts) cs (h .1) (h .2))
+    (unfold CanUndo in all-has (ThingFits s) ts t (p .two .each) (h .0), turns-fit s (undo (added t) ts) cs (h .1) (h .2))
 turns-fit s ts (taken t ∷ cs) p h =
-    (unfold undo in all-has (ThingFits s) (add t ts) t (h .1 .each) (has-add t ts), turns-fit s (undo (taken t) ts) cs (h .1) (h .2))
+    (unfold undo in all-has (ThingFits s) (add t ts) t (h .1 .two .each) (has-add t ts), turns-fit s (undo (taken t) ts) cs (h .1) (h .2))
 
 -- ---- the whole board
 
@@ -138,7 +138,7 @@ board-back l p q =
 
 pub laid-reads : (l : Layout) → Laid l → All ReadsBack (l .items) × All TurnsBack (l .kept)
 laid-reads l p = (
-  all-imp _ ReadsBack (thing-back (l .size)) (l .items) (p .fits .each),
+  all-imp _ ReadsBack (thing-back (l .size)) (l .items) (p .fits .two .each),
   all-imp _ TurnsBack (turn-back (l .size)) (l .kept) (turns-fit (l .size) (l .items) (l .kept) (p .fits) (p .undoes)),
 )
 

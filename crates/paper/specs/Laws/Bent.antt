@@ -1,10 +1,11 @@
 -- The shape of drawn runs: none is refused just where each goes along an axis and across the one before.
 -- Assumes nothing.
-use Prim.Native.Nat.{ℕ, suc}
+use Prim.Native.Nat.{ℕ, suc, _≤_}
 use native.Mathlib.Omega.{arith}
 use mathlib.Core.Bool.{Bool, true, false}
 use mathlib.Core.Logic.{_⊎_, inl, inr, ⊎-elim}
 use mathlib.Core.List.{List, [], _∷_}
+use lib.ListN.{length}
 use Rattle.paper.specs.Grid.{Axis, level, upright, Area}
 use Rattle.paper.specs.Layout.{Along, across, Turning}
 use Rattle.paper.specs.Drawn.{Bent, Unturned, shapeChecks}
@@ -61,3 +62,9 @@ pub first-straight : (k : ℕ) (r : Area) (rs : List Area) → Clear (shapeCheck
 unfolding Clear shapeChecks
 first-straight k r [] c = c .0
 first-straight k r (q ∷ rs) c = c .0
+
+-- runs of a good shape go along the axes by turns
+pub by-turns : (k : ℕ) (rs : List Area) → 1 ≤ length rs → Clear (shapeChecks k rs) → (a : Axis) × Turning a rs
+by-turns k [] h c = absurd (omega arith)
+by-turns k (r ∷ rs) h c =
+    ⊎-elim (λ a. (level, shape-turning level k r rs a c)) (λ a. (upright, shape-turning upright k r rs a c)) (straight-or r (first-straight k r rs c))

@@ -12,10 +12,10 @@ use Rattle.paper.specs.declared.Reply.{Reply}
 use Rattle.paper.specs.declared.Verdict.{Verdict}
 use Rattle.paper.specs.declared.Record.{Record}
 use Rattle.paper.specs.declared.Record.the-variants.{Bounds, KeepOut, Lay, Ask, TakeOut, Undo, Malformed}
-use Rattle.paper.specs.Grid.{Node, node}
+use Rattle.paper.specs.Grid.{Node}
 use Rattle.paper.specs.Layout.{Thing, wire, idOf, Sort, keep-outs, wires, Used, Layout}
 use Rattle.paper.specs.Padding.{Holds}
-use Rattle.paper.specs.Answer.{named, plain, Check, _if_, Applies, Gives, Bars, Blocking, source, target, TheWire, way, TooManyBlocks, pinChecks, checks, verdict, Fed}
+use Rattle.paper.specs.Answer.{named, plain, Check, _if_, Applies, Gives, BarsNode, Blocking, source, target, TheWire, way, TooManyBlocks, pinChecks, checks, verdict, Fed}
 use Rattle.paper.specs.Laws.Lists.{any-imp}
 
 abbrev pub Blames : ℕ → Type 0
@@ -58,7 +58,7 @@ module _ (l : Layout) where
       none (subst (λ c. ¬ (Blames c)) (sym c) b) (e ∙ ap plain (sym c))
 
   blocking-used : (of : Sort) (p : Node) (i : ℕ) → Blocking l of p i → Used (l .items) i
-  blocking-used of p i b = any-imp (λ t. (idOf t ≡ i) × Bars l wires of (node p) t) (λ t. idOf t ≡ i) (λ t h. h .0) (l .items) b
+  blocking-used of p i b = any-imp (λ t. (idOf t ≡ i) × BarsNode l of p t) (λ t. idOf t ≡ i) (λ t h. h .0) (l .items) b
 
   plainly : (n : ℕ) → ¬ (Blames n) → {A : Type 0} (v : Verdict) → A × (v ≡ plain n) → Blamed (l .items) v
   plainly n b v a = quiet n b v (a .1)

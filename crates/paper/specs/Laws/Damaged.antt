@@ -81,6 +81,9 @@ sound-boards =
     ∷ ten (keep 1 0 0 5 5 ∷ keep 2 5 0 8 5 ∷ []) []
     ∷ ten (wire 1 (at 0 0 ∷ at 10 0 ∷ []) ∷ wire 2 (at 0 2 ∷ at 10 2 ∷ []) ∷ []) []
     ∷ ten (keep 1 0 0 10 5 ∷ wire 2 (at 0 0 ∷ at 10 0 ∷ at 10 5 ∷ at 0 5 ∷ []) ∷ []) []
+    -- a wire that touches the end of a seam
+    ∷ ten (keep 1 0 0 5 5 ∷ keep 2 5 0 8 5 ∷ wire 7 (at 0 5 ∷ at 8 5 ∷ []) ∷ []) []
+    ∷ ten (keep 1 0 0 5 5 ∷ wire 7 (at 5 0 ∷ at 5 3 ∷ []) ∷ []) []
     ∷ []
 
 pub well : All WellFormed sound-boards
@@ -126,6 +129,9 @@ damaged-boards =
     -- "through no keep-out", whichever has the lower id
     ∷ ten (k1 ∷ wire 7 (at 1 5 ∷ at 8 5 ∷ []) ∷ []) []
     ∷ ten (wire 1 (at 1 5 ∷ at 8 5 ∷ []) ∷ keep 2 3 2 6 8 ∷ []) []
+    -- along a seam of two keep-outs; of a keep-out that an undo brings back
+    ∷ ten (keep 1 0 0 5 5 ∷ keep 2 5 0 8 5 ∷ wire 7 (at 5 0 ∷ at 5 3 ∷ []) ∷ []) []
+    ∷ ten (keep 1 0 0 5 5 ∷ wire 7 (at 5 0 ∷ at 5 3 ∷ []) ∷ []) (taken (keep 2 5 0 8 5) ∷ [])
     -- "any two wires at least c apart in x or in y"
     ∷ ten (wire 1 (at 0 0 ∷ at 10 0 ∷ []) ∷ wire 2 (at 0 1 ∷ at 10 1 ∷ []) ∷ []) []
     ∷ ten (wire 1 (at 0 5 ∷ at 10 5 ∷ []) ∷ wire 2 (at 5 0 ∷ at 5 10 ∷ []) ∷ []) []

@@ -10,21 +10,25 @@ use lib.ListN.{length}
 use Rattle.paper.specs.declared.Board.{Board}
 use Rattle.paper.specs.declared.Judged.{Judged}
 use Rattle.paper.specs.Limits.{most-runs}
-use Rattle.paper.specs.Grid.{Node, Dir, step, level, upright, Grid, Area, Block, Hits, Any, All, Blocked}
+use Rattle.paper.specs.Grid.{Node, Dir, step, Axis, level, upright, Grid, Area, Block, Hits, Any, All, Blocked}
 use Rattle.paper.specs.Wire.{Legal, Answered, ToGo, turns, corners, between, runs}
-use Rattle.paper.specs.Layout.{Thing, keep-out, wire, Sort, keep-outs, wires, blocksOf, blocksTo, gridOf, OnBoard, Turning, lastOf, EndsDiffer, Layout, Laid}
+use Rattle.paper.specs.Layout.{Thing, keep-out, wire, Sort, keep-outs, wires, blocksOf, blocksTo, gridOf, OnBoard, Along, across, Turning, lastOf, EndsDiffer, Layout, Laid, Sound}
 use Rattle.paper.specs.Padding.{Holds, WellFormed}
 use Rattle.paper.specs.Answer.{plain, Gives, Bars, flat}
-use Rattle.paper.specs.Drawn.{drawn, shapeChecks, runChecks, cornerChecks, drawnChecks, longOf, Exceeds, judgement, JudgedOn, Judges}
+use Rattle.paper.specs.Drawn.{drawn, InKeepOut, NearWire, shapeChecks, runChecks, cornerChecks, drawnChecks, longOf, Exceeds, judgement, JudgedOn, Judges}
 use Rattle.paper.specs.Laws.Says.{Says, says-and}
 use Rattle.paper.specs.Laws.Tests.{on-board-says}
 use Rattle.paper.specs.Laws.Lists.{any-split, any-left, any-right}
 use Rattle.paper.specs.Laws.Checks.{one-verdict, Coded, coded-join, Clear, clear-of, of-clear, clear-join, clear-split}
 use Rattle.paper.specs.Laws.Back.{one-layout, length-runs}
 use Rattle.paper.specs.Laws.Steps.{free-inside}
-use Rattle.paper.specs.Laws.Traced.{open-boxes, passed-all, answered-fits}
+use Rattle.paper.specs.Laws.Apart.{blocked-left}
+use Rattle.paper.specs.Laws.Traced.{OpenBox, open-boxes, passed-all, answered-fits}
+use Rattle.paper.specs.Laws.Joins.{joined, open-joined}
+use Rattle.paper.specs.Laws.Seams.{legal-joined, answered-joined, run-in, run-out}
+use Rattle.paper.specs.Laws.Next.{laid}
 use Rattle.paper.specs.Laws.Told.{answered-to-go}
-use Rattle.paper.specs.Laws.Bent.{straight-or, shape-turning, turning-shape, shape-coded, first-straight}
+use Rattle.paper.specs.Laws.Bent.{by-turns, turning-shape, shape-coded}
 use Rattle.paper.specs.Laws.Walked.{word, long-corners, last-turns}
 
 -- ---- one judgement
@@ -89,36 +93,52 @@ module _ (l : Layout) (a : Area) where
   some-among of (t ∷ ts) (inl s) = any-left (λ b. Hits b a) (blocksOf (l .size .clearance) wires t) (blocksTo (l .size .clearance) wires ts) (s .1)
   some-among of (t ∷ ts) (inr h) = any-right (λ b. Hits b a) (blocksOf (l .size .clearance) wires t) (blocksTo (l .size .clearance) wires ts) (some-among of ts h)
 
+-- by the blocks and the rectangles of two: nothing is in the run's way just where no item and no seam is
+abbrev pub shut : Layout → List Block
+shut l = joined (blocksTo (l .size .clearance) wires (l .items))
+
+module _ (l : Layout) (L : Laid l) where
+  open-shut : All OpenBox (shut l)
+  open-shut = open-joined _ (open-boxes (l .size) (l .size .clearance) (l .items) (L .range .2 .0) (L .fits .two .each))
+
+  pub run-clear : (a : Axis) (r : Area) → Along a r → ¬ (InKeepOut l r) → ¬ (NearWire l r) → ¬ (Blocked (shut l) r)
+  run-clear a r s k w h =
+      ⊎-elim (none-among l r (l .items) (λ x. k (inl x)) w) (λ x. k (inr x)) (run-out (l .size .clearance) (l .items) (L .range .2 .0) a r s open-shut h)
+
+  clear-keep-out : (r : Area) → ¬ (Blocked (shut l) r) → ¬ (InKeepOut l r)
+  clear-keep-out r n k =
+      n (⊎-elim (λ x. blocked-left _ _ r (some-among l r keep-outs (l .items) x)) (λ x. run-in (l .size .clearance) (l .items) (L .range .2 .0) level r x) k)
+
+  clear-wire : (r : Area) → ¬ (Blocked (shut l) r) → ¬ (NearWire l r)
+  clear-wire r n w = n (blocked-left _ _ r (some-among l r wires (l .items) w))
+
 -- ---- the checks of the runs
 
 not-not : {b : Bool} {P : Type 0} → Says b P → ¬ (¬ P) → P
 not-not {b = true} s n = s .fact tt
 not-not {b = false} s n = absurd (n (s .test))
 
-module _ (l : Layout) where
-  abbrev bs : List Block
-  bs = blocksTo (l .size .clearance) wires (l .items)
-
+module _ (l : Layout) (L : Laid l) where
   on-both : (p q : Node) → ¬ (¬ (OnBoard (l .size) p × OnBoard (l .size) q)) → OnBoard (l .size) p × OnBoard (l .size) q
   on-both p q n = not-not (says-and (on-board-says (l .size) p) (on-board-says (l .size) q)) n
 
-  pub runs-clear : (k : ℕ) (p q : Node) (ps : List Node) → Clear (runChecks l k (p ∷ q ∷ ps))
-      → All (OnBoard (l .size)) (p ∷ q ∷ ps) × All (λ r. ¬ (Blocked bs r)) (runs (p ∷ q ∷ ps))
-  unfolding Clear runChecks All runs
-  runs-clear k p q [] c =
+  pub runs-clear : (k : ℕ) (a : Axis) (p q : Node) (ps : List Node) → Turning a (runs (p ∷ q ∷ ps)) → Clear (runChecks l k (p ∷ q ∷ ps))
+      → All (OnBoard (l .size)) (p ∷ q ∷ ps) × All (λ r. ¬ (Blocked (shut l) r)) (runs (p ∷ q ∷ ps))
+  unfolding Clear runChecks All runs Turning
+  runs-clear k a p q [] t c =
       let o = on-both p q (c .0) in
-      ((o .0, (o .1, tt)), (none-among l (between p q) (l .items) (c .1 .0) (c .1 .1 .0), tt))
-  runs-clear k p q (r ∷ ps) c =
+      ((o .0, (o .1, tt)), (run-clear l L a (between p q) (t .0) (c .1 .0) (c .1 .1 .0), tt))
+  runs-clear k a p q (r ∷ ps) t c =
       let o = on-both p q (c .0) in
-      let m = runs-clear (suc k) q r ps (c .1 .1 .1) in
-      ((o .0, m .0), (none-among l (between p q) (l .items) (c .1 .0) (c .1 .1 .0), m .1))
+      let m = runs-clear (suc k) (across a) q r ps (t .1) (c .1 .1 .1) in
+      ((o .0, m .0), (run-clear l L a (between p q) (t .0) (c .1 .0) (c .1 .1 .0), m .1))
 
-  clear-runs : (k : ℕ) (p : Node) (ps : List Node) → All (OnBoard (l .size)) (p ∷ ps) → All (λ r. ¬ (Blocked bs r)) (runs (p ∷ ps))
+  clear-runs : (k : ℕ) (p : Node) (ps : List Node) → All (OnBoard (l .size)) (p ∷ ps) → All (λ r. ¬ (Blocked (shut l) r)) (runs (p ∷ ps))
       → Clear (runChecks l k (p ∷ ps))
   unfolding Clear runChecks All runs
   clear-runs k p [] o c = tt
   clear-runs k p (q ∷ ps) o c =
-      (λ n. n (o .0, o .1 .0), (λ w. c .0 (some-among l (between p q) keep-outs (l .items) w), (λ w. c .0 (some-among l (between p q) wires (l .items) w), clear-runs (suc k) q ps (o .1) (c .1))))
+      (λ n. n (o .0, o .1 .0), (clear-keep-out l L (between p q) (c .0), (clear-wire l L (between p q) (c .0), clear-runs (suc k) q ps (o .1) (c .1))))
 
 pub run-coded : (l : Layout) (k : ℕ) (ps : List Node) → Coded (runChecks l k ps)
 unfolding Coded runChecks
@@ -137,11 +157,11 @@ drawn-flat (p ∷ ps) = let m = drawn-flat ps in (ap (λ l. p ∷ l) (m .0), ome
 pub accepts-legal : (l : Layout) → Laid l → (s t : Node) (v : List Dir) → Legal (gridOf (l .size) (l .items)) s t v → ¬ (s ≡ t)
     → length (runs (corners s v)) ≤ most-runs → Turning level (runs (corners s v)) ⊎ Turning upright (runs (corners s v))
     → Gives (drawnChecks l (flat (corners s v))) (plain 0)
-unfolding Legal corners drawnChecks Clear EndsDiffer All
+unfolding Legal corners Clear EndsDiffer All
 accepts-legal l L s t [] legal two few turn = absurd (two legal)
 accepts-legal l L s t (d ∷ v) legal two few turn =
-    let o = open-boxes (l .size) (l .size .clearance) (l .items) (L .range .2 .0) (L .fits .each) in
-    let r = passed-all (l .size .w) (l .size .h) (blocksTo (l .size .clearance) wires (l .items)) t o s d v legal in
+    let by = legal-joined (l .size) (l .items) s t (d ∷ v) (L .range .2 .0) .0 legal in
+    let r = passed-all (l .size .w) (l .size .h) (shut l) t (open-shut l L) s d v by in
     let i = free-inside (gridOf (l .size) (l .items)) s d (legal .0) .0 in
     let ps : List Node = s ∷ turns d (step d s) v in
     let n = length-runs s (turns d (step d s) v) in
@@ -153,22 +173,22 @@ accepts-legal l L s t (d ∷ v) legal two few turn =
         (
           rw (f .0) (λ e. two (e ∙ r .last)),
           rw (f .0) (clear-join (shapeChecks 1 (runs ps)) (runChecks l 1 ps) (⊎-elim (turning-shape level 1 (runs ps)) (turning-shape upright 1 (runs ps)) turn)
-              (clear-runs l 1 s (turns d (step d s) v) (i, r .inside) (r .clear))),
+              (clear-runs l L 1 s (turns d (step d s) v) (i, r .inside) (r .clear))),
         ),
       ),
     ))
 
+pub turns-of : (p q : Node) (ps : List Node) → Clear (shapeChecks 1 (runs (p ∷ q ∷ ps))) → (a : Axis) × Turning a (runs (p ∷ q ∷ ps))
+turns-of p q ps c = by-turns 1 (runs (p ∷ q ∷ ps)) (unfold runs in omega arith) c
+
 -- and what is accepted is such a wire, walked from its first corner to its last
-pub found : (l : Layout) (p q : Node) (ps : List Node) → Clear (shapeChecks 1 (runs (p ∷ q ∷ ps))) → Clear (runChecks l 1 (p ∷ q ∷ ps))
+pub found : (l : Layout) → Laid l → (p q : Node) (ps : List Node) → Clear (shapeChecks 1 (runs (p ∷ q ∷ ps))) → Clear (runChecks l 1 (p ∷ q ∷ ps))
     → (v : List Dir) × Legal (gridOf (l .size) (l .items)) p (lastOf p (q ∷ ps)) v × (corners p v ≡ p ∷ q ∷ ps) × (length v ≡ longOf (p ∷ q ∷ ps))
-unfolding runs
-found l p q ps c d =
-    let r = runs-clear l 1 p q ps d in
-    ⊎-elim (λ a. let w = word (l .size .w) (l .size .h) (bs l) level p q ps (shape-turning level 1 (between p q) (runs (q ∷ ps)) a c) (r .0) (r .1) in
-    (w .first ∷ w .rest, w .legal, w .corners-are, w .long))
-    (λ a. let w = word (l .size .w) (l .size .h) (bs l) upright p q ps (shape-turning upright 1 (between p q) (runs (q ∷ ps)) a c) (r .0) (r .1) in
-    (w .first ∷ w .rest, w .legal, w .corners-are, w .long))
-    (straight-or (between p q) (first-straight 1 (between p q) (runs (q ∷ ps)) c))
+found l L p q ps c d =
+    let t = turns-of p q ps c in
+    let r = runs-clear l L 1 (t .0) p q ps (t .1) d in
+    let w = word (l .size .w) (l .size .h) (shut l) (t .0) p q ps (t .1) (r .0) (r .1) in
+    (w .first ∷ w .rest, legal-joined (l .size) (l .items) p (lastOf p (q ∷ ps)) (w .first ∷ w .rest) (L .range .2 .0) .1 (w .legal), w .corners-are, w .long)
 
 -- ---- the excess
 
@@ -191,13 +211,13 @@ pub record Walk (l : Layout) (ps : List Node) (n : ℕ) : Type 0 where
   pub to-go : ToGo (gridOf (l .size) (l .items)) to from shortest
   pub excess : length by ≡ shortest + n
 
-walked : (l : Layout) (ps : List Node) (n : ℕ) → 2 ≤ length ps → Clear (cornerChecks l ps) → Exceeds (gridOf (l .size) (l .items)) ps n → Walk l ps n
+walked : (l : Layout) → Laid l → (ps : List Node) (n : ℕ) → 2 ≤ length ps → Clear (cornerChecks l ps) → Exceeds (gridOf (l .size) (l .items)) ps n → Walk l ps n
 unfolding Clear EndsDiffer Exceeds
-walked l [] n h c x = absurd (omega arith)
-walked l (p ∷ []) n h c x = absurd (omega arith)
-walked l (p ∷ q ∷ ps) n h c x =
+walked l L [] n h c x = absurd (omega arith)
+walked l L (p ∷ []) n h c x = absurd (omega arith)
+walked l L (p ∷ q ∷ ps) n h c x =
     let d = clear-split (shapeChecks 1 (runs (p ∷ q ∷ ps))) (runChecks l 1 (p ∷ q ∷ ps)) (c .1) in
-    let f = found l p q ps (d .0) (d .1) in
+    let f = found l L p q ps (d .0) (d .1) in
     record {
       from = p;
       to = lastOf p (q ∷ ps);
@@ -223,12 +243,12 @@ length-drawn (x ∷ y ∷ ns) zero e = absurd (omega arith)
 length-drawn (x ∷ y ∷ ns) (suc k) e = ap suc (length-drawn ns k (omega arith))
 
 -- what is accepted is such a walk
-pub accepted-walk : (l : Layout) (ns : List ℕ) (r : Judged) → JudgedOn l ns r → r .code ≡ 0 → Walk l (drawn ns) (r .excess)
+pub accepted-walk : (l : Layout) → Sound l → (ns : List ℕ) (r : Judged) → JudgedOn l ns r → r .code ≡ 0 → Walk l (drawn ns) (r .excess)
 unfolding Clear Coded
-accepted-walk l ns r j z =
+accepted-walk l s ns r j z =
     let c = clear-of (drawnChecks l ns) (judgement r) z (omega arith, (omega arith, corner-coded l (drawn ns))) (j .said) in
     let k = c .1 .0 in
-    walked l (drawn ns) (r .excess) (omega (arith, k .1, length-drawn ns (k .0) (k .3))) (c .1 .1) (j .accepted z)
+    walked l (laid l s (c .0)) (drawn ns) (r .excess) (omega (arith, k .1, length-drawn ns (k .0) (k .3))) (c .1 .1) (j .accepted z)
 
 -- a legal walk of few enough runs, each across the one before, drawn: accepted, and so much longer than a shortest one
 pub legal-accepted : (l : Layout) → Laid l → (s t : Node) (v : List Dir) → Legal (gridOf (l .size) (l .items)) s t v → ¬ (s ≡ t)
@@ -245,8 +265,8 @@ legal-accepted l L s t v legal two few turn r j =
 pub answered-no-excess : (l : Layout) → Laid l → (s t : Node) (v : List Dir) → Answered (gridOf (l .size) (l .items)) s t v → ¬ (s ≡ t)
     → length (runs (corners s v)) ≤ most-runs → (r : Judged) → JudgedOn l (flat (corners s v)) r → r ≡ record { code = 0; run = 0; excess = 0 }
 answered-no-excess l L s t v a two few r j =
-    let o = open-boxes (l .size) (l .size .clearance) (l .items) (L .range .2 .0) (L .fits .each) in
-    let w = answered-fits (l .size) (blocksTo (l .size .clearance) wires (l .items)) s t v o a two few in
+    let by = answered-joined (l .size) (l .items) s t v (L .range .2 .0) .0 a in
+    let w = answered-fits (l .size) (shut l) s t v (open-shut l L) by two few in
     let x = legal-accepted l L s t v (a .legal) two few (w .turning) r j in
     let z : r .excess ≡ 0 = omega (arith, x .3, one-to-go _ t s (x .1) (length v) (x .2) (answered-to-go (gridOf (l .size) (l .items)) s t v a)) in
     λ i. record { code = x .0 i .code; run = x .0 i .place; excess = z i }

@@ -22,6 +22,11 @@ unfolding All
 all-image P f [] a = tt
 all-image P f (x ∷ xs) a = (a .0, all-image P f xs (a .1))
 
+pub all-both : {A : Type 0} (P Q : A → Type 0) (xs : List A) → All P xs → All Q xs → All (λ x. P x × Q x) xs
+unfolding All
+all-both P Q [] a b = tt
+all-both P Q (x ∷ xs) a b = ((a .0, b .0), all-both P Q xs (a .1) (b .1))
+
 pub all-always : {A : Type 0} (P : A → Type 0) → ((x : A) → P x) → (xs : List A) → All P xs
 unfolding All
 all-always P h [] = tt

@@ -12,12 +12,13 @@ use Rattle.paper.specs.declared.Record.{Record}
 use Rattle.paper.specs.declared.Record.the-variants.{Bounds, KeepOut, Lay, Ask, TakeOut, Undo, Malformed}
 use Rattle.paper.specs.Limits.{most-blocks, most-kept}
 use Rattle.paper.specs.Grid.{All, Pairs}
-use Rattle.paper.specs.Layout.{Thing, idOf, blockCount, Apart, ThingFits, Below, ItemsFit, Turn, added, taken, add, without, Has, Used, undo, CanUndo, Undoes, Layout, InRange, empty, Laid, Sound}
+use Rattle.paper.specs.Layout.{Thing, idOf, blockCount, Seamless, Apart, ThingFits, Below, ItemsApart, ItemsFit, Turn, added, taken, add, without, Has, Used, undo, CanUndo, Undoes, Layout, InRange, empty, Laid, Sound}
 use Rattle.paper.specs.Answer.{Gives, BeforeBounds, TooManyBlocks, checks, changed, addTo, takeFrom}
 use Rattle.paper.specs.Laws.Checks.{Coded, clear-of, Spared, spared}
 use Rattle.paper.specs.Laws.Back.{has-add}
 use Rattle.paper.specs.Laws.Among.{all-add, all-without, pairs-add, pairs-without, rising-add, without-add, add-without, not-used-without, count-add, count-without}
 use Rattle.paper.specs.Laws.Apart.{apart-turn}
+use Rattle.paper.specs.Laws.Covering.{seamless-add, seamless-without}
 
 -- ---- code 0: none of the checks applies
 
@@ -39,22 +40,25 @@ spares l rec n v z g = spared (checks l rec n) (clear-of (checks l rec n) v z (c
 
 -- ---- items that fit, with one more, with one less
 
-pub fits-add : (s : Size) (t : Thing) (ts : List Thing) → ItemsFit s ts → ¬ (Used ts (idOf t)) → ThingFits s t
-    → All (Apart (s .clearance) t) ts → blockCount (t ∷ ts) ≤ most-blocks → ItemsFit s (add t ts)
-fits-add s t ts f n p a few = record {
+pub apart-add : (s : Size) (t : Thing) (ts : List Thing) → ItemsApart s ts → ¬ (Used ts (idOf t)) → ThingFits s t
+    → All (Apart (s .clearance) t) ts → blockCount (t ∷ ts) ≤ most-blocks → ItemsApart s (add t ts)
+apart-add s t ts f n p a few = record {
   rising = rising-add t ts n (f .rising);
   each = all-add (ThingFits s) t ts p (f .each);
   apart = pairs-add (Apart (s .clearance)) (apart-turn (s .clearance)) t ts a (f .apart);
   blocks-few = omega (arith, count-add t ts);
 }
 
-pub fits-without : (s : Size) (i : ℕ) (ts : List Thing) → ItemsFit s ts → ItemsFit s (without i ts)
-fits-without s i ts f = record {
+pub apart-without : (s : Size) (i : ℕ) (ts : List Thing) → ItemsApart s ts → ItemsApart s (without i ts)
+apart-without s i ts f = record {
   rising = pairs-without Below i ts (f .rising);
   each = all-without (ThingFits s) i ts (f .each);
   apart = pairs-without (Apart (s .clearance)) i ts (f .apart);
   blocks-few = omega (arith, f .blocks-few, count-without i ts);
 }
+
+pub fits-without : (s : Size) (i : ℕ) (ts : List Thing) → ItemsFit s ts → ItemsFit s (without i ts)
+fits-without s i ts f = record { two = apart-without s i ts (f .two); seamless = seamless-without i ts (f .seamless) }
 
 -- ---- the kept changes
 
@@ -76,18 +80,18 @@ laid-keep l ts c p f can e = record {
 }
 
 pub laid-add : (l : Layout) (t : Thing) → Laid l → ¬ (Used (l .items) (idOf t)) → ThingFits (l .size) t
-    → All (Apart (l .size .clearance) t) (l .items) → ¬ (TooManyBlocks l t) → Laid (addTo l t)
-laid-add l t p n fit a few =
+    → All (Apart (l .size .clearance) t) (l .items) → Seamless (t ∷ l .items) → ¬ (TooManyBlocks l t) → Laid (addTo l t)
+laid-add l t p n fit a z few =
     laid-keep l (add t (l .items)) (added t) p
-    (fits-add (l .size) t (l .items) (p .fits) n fit a (omega arith))
+    (record { two = apart-add (l .size) t (l .items) (p .fits .two) n fit a (omega arith); seamless = seamless-add t (l .items) z })
     (unfold CanUndo in has-add t (l .items)) (unfold undo in without-add t (l .items) n)
 
 pub laid-take : (l : Layout) (t : Thing) → Laid l → Has (l .items) t → Laid (takeFrom l t)
 laid-take l t p h =
     laid-keep l (without (idOf t) (l .items)) (taken t) p
     (fits-without (l .size) (idOf t) (l .items) (p .fits))
-    (unfold CanUndo in not-used-without (idOf t) (l .items) (p .fits .rising))
-    (unfold undo in add-without t (l .items) (p .fits .rising) h)
+    (unfold CanUndo in not-used-without (idOf t) (l .items) (p .fits .two .rising))
+    (unfold undo in add-without t (l .items) (p .fits .two .rising) h)
 
 pub laid-undo : (l : Layout) (c : Turn) (cs : List Turn) → Laid l → l .kept ≡ c ∷ cs
     → Laid (record { size = l .size; items = undo c (l .items); kept = cs })
@@ -100,7 +104,7 @@ pub laid-empty : (z : Size) → InRange z → Laid (empty z)
 unfolding All Pairs blockCount Undoes
 laid-empty z h = record {
   range = h;
-  fits = record { rising = tt; each = tt; apart = tt; blocks-few = omega arith };
+  fits = record { two = record { rising = tt; each = tt; apart = tt; blocks-few = omega arith }; seamless = tt };
   kept-few = omega arith;
   undoes = tt;
 }

@@ -25,7 +25,7 @@ use Rattle.paper.specs.Laws.Read.{one-record}
 pub sound-rising : (l : Layout) → Sound l → Pairs Below (l .items)
 unfolding Sound Pairs
 sound-rising l (inl e) = rw e tt
-sound-rising l (inr p) = p .fits .rising
+sound-rising l (inr p) = p .fits .two .rising
 
 pub one-item : (ts : List Thing) (t u : Thing) → Pairs Below ts → Has ts t → Has ts u → idOf t ≡ idOf u → t ≡ u
 unfolding Pairs Any

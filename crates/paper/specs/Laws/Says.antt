@@ -56,6 +56,11 @@ says-and₃ p q r = says-as (λ h. (h .0 .0, h .0 .1, h .1)) (λ h. ((h .0, h .1
 pub says-and₄ : {A C D E : Type 0} {a c d e : Bool} → Says a A → Says c C → Says d D → Says e E → Says (a && c && d && e) (A × C × D × E)
 says-and₄ p q r s = says-as (λ h. (h .0 .0, h .0 .1, h .0 .2, h .1)) (λ h. ((h .0, h .1, h .2), h .3)) (says-and (says-and₃ p q r) s)
 
+-- a further fact that is tested where the others hold
+pub says-then : {A C D E : Type 0} {a c : Bool} → Says a (A × C × D) → (C → Says c E) → Says (a && c) (A × C × D × E)
+says-then {a = true} p q = let h = p .fact tt in says-as (λ e. (h .0, h .1, h .2, e)) (λ h. h .3) (q (h .1))
+says-then {a = false} p q = says-never (λ h. p .test (h .0, h .1, h .2))
+
 pub says-or : {A C : Type 0} {a c : Bool} → Says a A → Says c C → Says (a || c) (A ⊎ C)
 says-or {a = true} p q = says-always (inl (p .fact tt))
 says-or {a = false} p q = says-as inr (λ h. ⊎-elim (λ x. absurd (p .test x)) (λ y. y) h) q

@@ -41,7 +41,7 @@ unfolding Sound boardOf
 board-shape l (inl e) = rw e (refl, refl)
 board-shape l (inr p) = (
   length-filled no-item 46 (map itemOf (l .items))
-      (omega (arith, length-map (l .items) itemOf, items-few (l .size) (l .items) (p .fits .each), p .fits .blocks-few)),
+      (omega (arith, length-map (l .items) itemOf, items-few (l .size) (l .items) (p .fits .two .each), p .fits .two .blocks-few)),
   length-filled no-change 32 (map changeOf (reverse (l .kept)))
       (omega (arith, length-map (reverse (l .kept)) changeOf, length-reverse (l .kept), p .kept-few)),
 )

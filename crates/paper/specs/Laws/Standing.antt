@@ -1,18 +1,18 @@
 -- A board that is how the struct holds the layout read back from it, whether that layout is sound or not.
 -- Assumes nothing.
-use Prim.Native.Nat.{ℕ, _+_, _≤_, _<_}
+use Prim.Native.Nat.{ℕ, _≤_, _<_}
 use native.Mathlib.Omega.{arith}
-use mathlib.Core.Path.{_≡_, refl, sym, ap, subst, _∙_}
+use mathlib.Core.Path.{_≡_, refl, sym, ap, _∙_}
 use mathlib.Core.Bool.{Bool, true, false, cond}
 use mathlib.Core.Logic.{inl, inr}
-use mathlib.Core.List.{List, [], _∷_}
+use mathlib.Core.List.{List}
 use lib.ListN.{length, getD}
 use lib.Dec.{eqb}
 use Rattle.paper.specs.declared.Item.{Item}
 use Rattle.paper.specs.declared.Board.{Board}
 use Rattle.paper.specs.Limits.{most-blocks, most-kept}
 use Rattle.paper.specs.Grid.{All}
-use Rattle.paper.specs.Layout.{Thing, keep-out, wire, idOf, Turn, Layout, Laid, Sound}
+use Rattle.paper.specs.Layout.{Thing, keep-out, wire, idOf, Layout, Sound}
 use Rattle.paper.specs.Padding.{itemOf, no-item, boardOf, WellFormed}
 use Rattle.paper.specs.Laws.Back.{thingOf, layoutOf, well-formed, ReadsBack, TurnsBack, board-back, laid-reads}
 use Rattle.paper.specs.Laws.Shape.{items-few}
@@ -67,7 +67,7 @@ unfolding Sound
 sound-standing l (inl e) = rw e (standing _ (omega arith) (omega arith) (unfold All in tt) (unfold All in tt))
 sound-standing l (inr p) =
     let h = laid-reads l p in
-    standing l (omega (arith, items-few (l .size) (l .items) (p .fits .each), p .fits .blocks-few)) (p .kept-few) (h .0) (h .1)
+    standing l (omega (arith, items-few (l .size) (l .items) (p .fits .two .each), p .fits .two .blocks-few)) (p .kept-few) (h .0) (h .1)
 
 pub well-standing : (b : Board) → WellFormed b → Standing b
 well-standing b w = let h = well-formed b w in rw (h .same) (sound-standing (layoutOf b) (h .sound))

@@ -57,7 +57,7 @@ passes l (Lay i p) n o z h d =
     (d .0, d .1, rw (d .2) (past-keep l _ _ (unfold undo in without-add (wire (i .number) (way p (d .0))) (l .items) (h 4))))
 passes l (Ask p) n o z h d = rw (d .2)
 passes l (TakeOut i) n o z h d =
-    rw (d .3, ← d .2) (past-keep l _ _ (unfold undo in add-without (d .0) (l .items) (laid l z (h 2) .fits .rising) (d .1)))
+    rw (d .3, ← d .2) (past-keep l _ _ (unfold undo in add-without (d .0) (l .items) (laid l z (h 2) .fits .two .rising) (d .1)))
 passes l Undo n o z h d =
     (undo (d .0) (l .items), pasts (undo (d .0) (l .items)) (d .1), ap (λ ds. pasts (l .items) ds) (d .2), rw (d .3))
 

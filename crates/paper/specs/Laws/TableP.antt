@@ -5,7 +5,7 @@ use native.Mathlib.Omega.{arith}
 use native.Mathlib.Nat.{add-zero}
 use mathlib.Core.Path.{_≡_, refl, ap}
 use mathlib.Core.Bool.{Bool, true, false, not, _&&_, _||_, cond}
-use mathlib.Core.Logic.{inl, inr}
+use mathlib.Core.Logic.{_↔_, inl, inr}
 use mathlib.Core.List.{List}
 use lib.ListN.{length}
 use lib.Dec.{T, ltb, eqb}
@@ -13,16 +13,19 @@ use Rattle.paper.specs.declared.Pins.{Pins}
 use Rattle.paper.specs.declared.Record.the-variants.{Ask}
 use Rattle.paper.specs.Limits.{most-runs, least-slice}
 use Rattle.paper.specs.Grid.{Node, Dir, Block, All, Pairs, node}
-use Rattle.paper.specs.Wire.{turns, corners, runs, gap, manhattan, detour}
-use Rattle.paper.specs.Layout.{Thing, Sort, keep-outs, wires, sortOf, areas, blocksOf, blocksTo, Below, Sound}
+use Rattle.paper.specs.Wire.{Answered, turns, corners, runs, gap, manhattan, detour}
+use Rattle.paper.specs.Layout.{Thing, Sort, keep-outs, wires, sortOf, areas, blocksOf, blocksTo, round, gridOf, Below, Sound}
 use Rattle.paper.specs.Padding.{boardOf}
 use Rattle.paper.specs.Reading.{fieldsOf, Plain, Reads}
 use Rattle.paper.specs.declared.Verdict.{Verdict}
-use Rattle.paper.specs.Answer.{named, plain, Gives, Bars, source, target, way, TooManyRuns, checks, Outcome, quiet, told, Does, written, Tells, Fed}
+use Rattle.paper.specs.Answer.{named, plain, Gives, Bars, BarsNode, source, target, way, NoWire, TooManyRuns, checks, Outcome, quiet, told, Does, written, Tells, Fed}
 use Rattle.paper.specs.TableP.{Row, layoutIn, asking, replyIn, Stands, tableP}
 use Rattle.paper.specs.Laws.Lists.{all-imp}
-use Rattle.paper.specs.Laws.Says.{Says, says-as, says-self, says-always, says-never, says-and, says-and₃, says-and₄, says-not, says-if, says-le, says-eq, says-all, listb, says-list}
-use Rattle.paper.specs.Laws.Tests.{nodeb, node-says, blockedb, blocked-says, onBoardb, on-board-says, soundb, sound-says}
+use Rattle.paper.specs.Laws.Next.{laid}
+use Rattle.paper.specs.Laws.Joins.{joins, joined}
+use Rattle.paper.specs.Laws.Seams.{legal-joined, answered-joined}
+use Rattle.paper.specs.Laws.Says.{Says, says-as, says-self, says-always, says-never, says-and, says-and₃, says-and₄, says-not, says-if, says-le, says-eq, says-all, says-any, anyb, listb, says-list}
+use Rattle.paper.specs.Laws.Tests.{nodeb, node-says, blockedb, blocked-says, coversb, covers-says, sealedb, sealed-says, onBoardb, on-board-says, soundb, sound-says}
 use Rattle.paper.specs.Laws.Certificate.{Table, look, routeb, none-by-table, by-table}
 use Rattle.paper.specs.Laws.Distances.{distances, steps}
 use Rattle.paper.specs.Laws.One.{sound-rising}
@@ -108,43 +111,55 @@ module _ (r : Row) (tab : Table) (v : List Dir) where
   outcome = told (r .pins) v (layoutIn r)
 
   abbrev routedb : Bool
-  routedb = routeb 10 10 (blocksIn r) tab here there v
+  routedb = routeb 10 10 (joined (blocksIn r)) tab here there v
 
   -- the item of the sort blocks the node
-  unfoldable barsb : Sort → Node → Thing → Bool
-  unfolding blockedb blocksOf areas runs
-  barsb of p t = sortb (sortOf t) of && blockedb (blocksOf (r .clearance) wires t) (node p)
+  unfoldable barsNodeb : Sort → Node → Thing → Bool
+  unfolding blockedb blocksOf areas runs sealedb coversb
+  barsNodeb keep-outs p t = sealedb (r .items) (round p) && anyb (coversb t) (round p)
+  barsNodeb wires p t = sortb (sortOf t) wires && blockedb (blocksOf (r .clearance) wires t) (node p)
 
-  bars-says : (of : Sort) (p : Node) (t : Thing) → Says (barsb of p t) (Bars (layoutIn r) wires of (node p) t)
-  unfolding barsb Bars
-  bars-says of p t = says-and (sort-says (sortOf t) of) (blocked-says _ _)
+  bars-node-says : (of : Sort) (p : Node) (t : Thing) → Says (barsNodeb of p t) (BarsNode (layoutIn r) of p t)
+  unfolding barsNodeb BarsNode Bars
+  bars-node-says keep-outs p t = says-and (sealed-says _ _) (says-any (covers-says t) (round p))
+  bars-node-says wires p t = says-and (sort-says (sortOf t) wires) (blocked-says _ _)
 
   -- the codes of an ask in their order, after 2 and 16
   unfoldable verdictIn : Verdict
-  unfolding namedb barsb
+  unfolding namedb barsNodeb
   verdictIn =
       cond (onBoardb (layoutIn r .size) here && onBoardb (layoutIn r .size) there)
       (cond (nodeb here there) (plain 10)
-      (namedb (barsb keep-outs here) (named 11 1) (r .items)
-      (namedb (barsb wires here) (named 18 1) (r .items)
-      (namedb (barsb keep-outs there) (named 11 2) (r .items)
-      (namedb (barsb wires there) (named 18 2) (r .items)
+      (namedb (barsNodeb keep-outs here) (named 11 1) (r .items)
+      (namedb (barsNodeb wires here) (named 18 1) (r .items)
+      (namedb (barsNodeb keep-outs there) (named 11 2) (r .items)
+      (namedb (barsNodeb wires there) (named 18 2) (r .items)
       (cond (eqb (look tab here) 0) (plain 12)
       (cond (ltb most-runs (length (runs (way (r .pins) v)))) (plain 13) (plain 0)))))))) (plain 9)
 
-  gives : (n : ℕ) → least-slice ≤ n → Pairs Below (r .items) → T routedb → Gives (checks (layoutIn r) (Ask (r .pins)) n) verdictIn
+  -- what is routed by the blocks and their rectangles is so by the definitions
+  routed-none : 1 ≤ r .clearance → T routedb → (look tab here ≡ 0) ↔ NoWire (layoutIn r) (r .pins)
+  routed-none c t =
+      let z = layoutIn r .size in
+      let none = none-by-table 10 10 (joined (blocksIn r)) tab here there v t in
+      (λ e u l. none .0 e u (legal-joined z (r .items) here there u c .0 l), λ n. none .1 (λ u l. n u (legal-joined z (r .items) here there u c .1 l)))
+
+  routed-wire : 1 ≤ r .clearance → T routedb → ¬ (look tab here ≡ 0) → Answered (gridOf (layoutIn r .size) (r .items)) here there v
+  routed-wire c t some = answered-joined (layoutIn r .size) (r .items) here there v c .1 (by-table 10 10 (joined (blocksIn r)) tab here there v t some)
+
+  gives : (n : ℕ) → least-slice ≤ n → 1 ≤ r .clearance → Pairs Below (r .items) → T routedb → Gives (checks (layoutIn r) (Ask (r .pins)) n) verdictIn
   unfolding checks verdictIn
-  gives n fits rising routed =
-      let none = none-by-table 10 10 (blocksIn r) tab here there v routed in
-      let wire = by-table 10 10 (blocksIn r) tab here there v routed in
+  gives n fits c rising routed =
+      let none = routed-none c routed in
+      let wire = routed-wire c routed in
       gives-if {b = false} 2 _ _ (says-never (λ z. omega arith)) λ bounds.
       gives-if {b = false} 16 _ _ (says-never (λ z. omega arith)) λ room.
       gives-unless 9 _ _ (says-and (on-board-says _ _) (on-board-says _ _)) λ on.
       gives-if 10 _ _ (node-says _ _) λ two.
-      gives-naming _ _ (bars-says keep-outs here) (named 11 1) _ 11 1 _ _ rising (λ j. refl) λ a.
-      gives-naming _ _ (bars-says wires here) (named 18 1) _ 18 1 _ _ rising (λ j. refl) λ b.
-      gives-naming _ _ (bars-says keep-outs there) (named 11 2) _ 11 2 _ _ rising (λ j. refl) λ c.
-      gives-naming _ _ (bars-says wires there) (named 18 2) _ 18 2 _ _ rising (λ j. refl) λ d.
+      gives-naming _ _ (bars-node-says keep-outs here) (named 11 1) _ 11 1 _ _ rising (λ j. refl) λ a.
+      gives-naming _ _ (bars-node-says wires here) (named 18 1) _ 18 1 _ _ rising (λ j. refl) λ b.
+      gives-naming _ _ (bars-node-says keep-outs there) (named 11 2) _ 11 2 _ _ rising (λ j. refl) λ c.
+      gives-naming _ _ (bars-node-says wires there) (named 18 2) _ 18 2 _ _ rising (λ j. refl) λ d.
       gives-if 12 _ _ (says-as (none .0) (none .1) (says-eq _ _)) λ some.
       gives-if 13 _ _ (the-wire-says (layoutIn r) (r .pins) (TooManyRuns (r .pins)) v (wire (λ z. some (none .0 z))) (says-le _ _)) λ few.
       gives-none
@@ -172,6 +187,9 @@ module _ (r : Row) (tab : Table) (v : List Dir) where
       (says-and (says-if (says-eq _ _) (says-and (says-not (says-eq _ _)) (claims-says r outcome)))
       (says-if (says-not (says-eq _ _)) (claims-says r (quiet (layoutIn r))))))
 
+  clear : Passed → 1 ≤ r .clearance
+  clear p = laid (layoutIn r) (p .sound) (λ z. omega arith) .range .2 .0
+
   stands : Passed → Stands r
   unfolding Stands Fed Does
   stands p s fits =
@@ -181,11 +199,11 @@ module _ (r : Row) (tab : Table) (v : List Dir) where
         record { sound = p .sound; same = refl },
         reads (r .pins),
         record {
-          code = rw (p .said) (gives (length s) fits (sound-rising (layoutIn r) (p .sound)) (p .routed));
+          code = rw (p .said) (gives (length s) fits (clear p) (sound-rising (layoutIn r) (p .sound)) (p .routed));
           refused = λ n. tells r (quiet (layoutIn r)) s (p .refused n);
           accepted = λ z. (
             outcome,
-            (v, by-table 10 10 (blocksIn r) tab here there v (p .routed) (p .accepted z .0), refl),
+            (v, routed-wire (clear p) (p .routed) (p .accepted z .0), refl),
             tells r outcome s (p .accepted z .1),
           );
         },
@@ -195,13 +213,13 @@ module _ (r : Row) (tab : Table) (v : List Dir) where
 
 -- the distances are computed, and the wire is the one with the row's corners
 abbrev tableIn : Row → Table
-tableIn r = distances 10 10 (blocksIn r) (target (r .pins))
+tableIn r = distances 10 10 (joined (blocksIn r)) (target (r .pins))
 
 abbrev wireIn : Row → List Dir
 wireIn r = steps (r .turned)
 
 pub table-p : All Stands tableP
-unfolding rowb distances steps blocksTo sortb
+unfolding rowb distances steps blocksTo joins sortb
 table-p =
     all-imp (λ r. Passed r (tableIn r) (wireIn r)) Stands (λ r. stands r (tableIn r) (wireIn r)) tableP
     (says-all (λ r. row-says r (tableIn r) (wireIn r)) tableP .fact tt)

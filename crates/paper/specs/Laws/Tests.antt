@@ -1,9 +1,9 @@
 -- A test for each definition of the grid and of well-formed layouts, and that it says what the definition says.
 -- The line `unfolding` of a test names what it computes with: to unfold the test is to unfold all of that.
 -- Assumes nothing.
-use Prim.Native.Nat.{ℕ, _+_}
+use Prim.Native.Nat.{ℕ, _+_, _≤_}
 use native.Mathlib.Omega.{arith}
-use mathlib.Core.Path.{_≡_, ap}
+use mathlib.Core.Path.{_≡_, refl, ap}
 use mathlib.Core.Bool.{Bool, true, false, not, _&&_, _||_}
 use mathlib.Core.List.{List, [], _∷_}
 use lib.ListN.{length}
@@ -11,10 +11,13 @@ use lib.Dec.{leb, ltb, eqb}
 use Rattle.paper.specs.declared.Size.{Size}
 use Rattle.paper.specs.declared.Rect.{Rect}
 use Rattle.paper.specs.Limits.{most-side, most-clearance, most-blocks, most-runs, most-kept}
-use Rattle.paper.specs.Grid.{Node, Dir, E, N, W, S, step, Axis, level, upright, Edge, Free, Area, Span, Meets, Block, Hits, Blocked, edge, gridWith}
+use Rattle.paper.specs.Grid.{Node, Dir, E, N, W, S, step, Axis, level, upright, Edge, Free, All, Area, Span, Meets, Block, Hits, Blocked, edge, gridWith}
 use Rattle.paper.specs.Wire.{Legal, runs}
-use Rattle.paper.specs.Layout.{Thing, keep-out, wire, idOf, sortOf, areas, blocksOf, blockCount, add, without, Meet, RectFits, OnBoard, Along, across, Turning, lastOf, EndsDiffer, WireFits, ThingFits, ItemsFit, Turn, added, taken, Has, Used, undo, CanUndo, Undoes, Layout, InRange, no-bounds, fresh, Laid, Sound}
-use Rattle.paper.specs.Laws.Says.{Says, says-as, says-always, says-never, says-and, says-and₃, says-and₄, says-or, says-not, says-le, says-eq, anyb, says-any, allb, says-all, pairsb, says-pairs, emptyb, says-empty, listb, says-list}
+use Rattle.paper.specs.Layout.{Thing, keep-out, wire, idOf, sortOf, areas, blocksOf, blockCount, Covers, Covered, Sealed, Seamed, Seamless, add, without, Meet, RectFits, OnBoard, Along, across, Turning, lastOf, EndsDiffer, WireFits, ThingFits, ItemsFit, Turn, added, taken, Has, Used, undo, CanUndo, Undoes, Layout, InRange, no-bounds, fresh, Laid, Sound}
+use Rattle.paper.specs.Laws.Lists.{all-imp, all-both}
+use Rattle.paper.specs.Laws.Joins.{joins, joined}
+use Rattle.paper.specs.Laws.Seams.{solid, Barred, barred-in, barred-out}
+use Rattle.paper.specs.Laws.Says.{says-then, Says, says-as, says-always, says-never, says-and, says-and₃, says-and₄, says-or, says-not, says-le, says-eq, anyb, says-any, allb, says-all, pairsb, says-pairs, emptyb, says-empty, listb, says-list}
 
 -- ---- equality
 
@@ -86,6 +89,24 @@ blockedb bs a = anyb (λ b. hitsb b a) bs
 pub blocked-says : (bs : List Block) (a : Area) → Says (blockedb bs a) (Blocked bs a)
 unfolding blockedb Blocked
 blocked-says bs a = says-any (λ b. hits-says b a) bs
+
+-- the cells lie in keep-outs
+unfoldable pub coversb : Thing → Node → Bool
+coversb (keep-out i r) q = (ltb (r .x0) (q .x) && leb (q .x) (r .x1)) && (ltb (r .y0) (q .y) && leb (q .y) (r .y1))
+coversb (wire i ps) q = false
+
+pub covers-says : (t : Thing) (q : Node) → Says (coversb t q) (Covers t q)
+unfolding coversb Covers
+covers-says (keep-out i r) q = says-and (says-and (says-le _ _) (says-le _ _)) (says-and (says-le _ _) (says-le _ _))
+covers-says (wire i ps) q = says-never (λ h. h)
+
+unfoldable pub sealedb : List Thing → List Node → Bool
+unfolding coversb anyb allb
+sealedb ts qs = allb (λ q. anyb (λ t. coversb t q) ts) qs
+
+pub sealed-says : (ts : List Thing) (qs : List Node) → Says (sealedb ts qs) (Sealed ts qs)
+unfolding sealedb Sealed Covered
+sealed-says ts qs = says-all (λ q. says-any (λ t. covers-says t q) ts) qs
 
 module _ (w h : ℕ) (bs : List Block) where
   unfoldable pub edgeb : Axis → Node → Bool
@@ -201,18 +222,41 @@ pub meet-says : (c : ℕ) (t u : Thing) → Says (meetb c t u) (Meet c t u)
 unfolding meetb Meet
 meet-says c t u = says-any (blocked-says (blocksOf c (sortOf u) t)) (areas u)
 
+-- whether a wire goes along a seam: by the keep-outs and their rectangles, as blocks
+unfoldable pub barredb : List Thing → Thing → Bool
+unfolding blockedb anyb areas runs joins solid
+barredb ts (keep-out i r) = false
+barredb ts (wire i ps) = anyb (blockedb (joined (solid ts))) (areas (wire i ps))
+
+barred-says : (s : Size) (ts : List Thing) (f : All (ThingFits s) ts) (t : Thing) → Says (barredb ts t) (Barred s ts f t)
+unfolding barredb
+barred-says s ts f (keep-out i r) = says-never (λ h. let z : _≡_ {A = ℕ} 0 1 = cc in omega arith)
+barred-says s ts f (wire i ps) = says-as (λ h. (refl, h)) (λ h. h .1) (says-any (blocked-says (joined (solid ts))) (areas (wire i ps)))
+
 unfoldable pub itemsFitb : Size → List Thing → Bool
-unfolding pairsb allb thingFitsb meetb blockCount
+unfolding pairsb allb thingFitsb meetb blockCount barredb
 itemsFitb s ts =
     pairsb (λ t u. ltb (idOf t) (idOf u)) ts && allb (thingFitsb s) ts
-    && pairsb (λ t u. not (meetb (s .clearance) t u)) ts && leb (blockCount ts) most-blocks
+    && pairsb (λ t u. not (meetb (s .clearance) t u)) ts && (leb (blockCount ts) most-blocks && allb (λ t. not (barredb ts t)) ts)
+
+-- of items that each fit
+seamless-says : (s : Size) (ts : List Thing) → All (ThingFits s) ts → Says (allb (λ t. not (barredb ts t)) ts) (Seamless ts)
+seamless-says s ts f =
+    says-as (all-imp _ _ (λ t n k. n (barred-in s ts f t k)) ts)
+    (λ a. all-imp (λ t. ThingFits s t × (¬ (Seamed ts t))) _ (λ t h k. h .1 (barred-out s ts f t (h .0) k)) ts (all-both _ _ ts f a))
+    (says-all (λ t. says-not (barred-says s ts f t)) ts)
+
+-- how few, and along no seam, in the order of the test
+abbrev Rest : Size → List Thing → Type 0
+Rest s ts = (blockCount ts ≤ most-blocks) × Seamless ts
 
 pub items-fit-says : (s : Size) (ts : List Thing) → Says (itemsFitb s ts) (ItemsFit s ts)
 unfolding itemsFitb
 items-fit-says s ts =
-    says-as (λ h. record { rising = h .0; each = h .1; apart = h .2; blocks-few = h .3 }) (λ f. (f .rising, f .each, f .apart, f .blocks-few))
-    (says-and₄ (says-pairs (λ t u. says-le _ _) ts) (says-all (thing-fits-says s) ts)
-    (says-pairs (λ t u. says-not (meet-says (s .clearance) t u)) ts) (says-le _ _))
+    says-as (λ h. record { two = record { rising = h .0; each = h .1; apart = h .2; blocks-few = h .3 .0 }; seamless = h .3 .1 })
+    (λ f. let t = f .two in (t .rising, t .each, t .apart, (t .blocks-few, f .seamless)))
+    (says-then {C = All (ThingFits s) ts} {E = Rest s ts} (says-and₃ (says-pairs (λ t u. says-le _ _) ts) (says-all (thing-fits-says s) ts)
+    (says-pairs (λ t u. says-not (meet-says (s .clearance) t u)) ts)) (λ each. says-and (says-le _ _) (seamless-says s ts each)))
 
 -- ---- the kept changes
 

@@ -21,7 +21,7 @@ use Rattle.paper.specs.Copper.{Falls, Routes, lay, ask, Copper}
 use Rattle.paper.specs.Laws.Read.{one-record}
 use Rattle.paper.specs.Laws.Checks.{Spared}
 use Rattle.paper.specs.Laws.Next.{Spares, spares, laid}
-use Rattle.paper.specs.Laws.Kept.{laid-clear}
+use Rattle.paper.specs.Laws.Kept.{laid-clear, laid-outside}
 use Rattle.paper.specs.Laws.Points.{clear-points}
 use Rattle.paper.specs.Laws.Detour.{length-detour}
 use Rattle.paper.specs.Laws.Length.{length-fits}
@@ -64,6 +64,7 @@ copper l m p o s s′ r w L on a e f =
       long = t .length-is;
       away = t .detour-is;
       clear = λ k q o. clear-points k (l .size .clearance) q (way p w) (l .items) (laid-clear l p w L a) o;
+      outside = λ k q o. laid-outside l p w k q L a o;
       falls = answered-falls G (source p) (target p) w a;
       sum = rw (t .length-is, t .detour-is) (length-detour G (source p) (target p) w (a .legal));
       bits = omega (arith, t .length-is, length-fits G (source p) (target p) w (L .range .0 .1) (L .range .1 .1) on a);

@@ -33,7 +33,7 @@ unfolding HasPoint Meets Within
 meets-part s a p e o (inl b) m = elim (decLt (s .lo) (p + s .c)) [ yes k ↦ inl (omega arith) | no k ↦ inr (omega arith) ]
 meets-part s a p e o (inr b) m = elim (decLt (s .lo) (p + s .c)) [ yes k ↦ inr (omega arith) | no k ↦ inl (omega arith) ]
 
-pub OpenBox : Block → Type 0
+unfoldable pub OpenBox : Block → Type 0
 OpenBox b = HasPoint (b .along-x) × HasPoint (b .along-y)
 
 -- p lies on the way from q to e along an axis
@@ -206,9 +206,9 @@ open-boxes s c (t ∷ ts) h a = all-join OpenBox (blocksOf c wires t) (blocksTo 
 
 -- ---- the answered wire
 
-either : (a : Axis) (ps : List Node) → Turning a (runs ps) → Turning level (runs ps) ⊎ Turning upright (runs ps)
-either level ps h = inl h
-either upright ps h = inr h
+pub either : (a : Axis) (rs : List Area) → Turning a rs → Turning level rs ⊎ Turning upright rs
+either level rs h = inl h
+either upright rs h = inr h
 
 -- its runs are blocked nowhere
 pub answered-clear : (w h : ℕ) (bs : List Block) (s t : Node) (v : List Dir) → All OpenBox bs → Answered (gridWith w h bs) s t v
@@ -217,6 +217,16 @@ unfolding Legal corners
 answered-clear w h bs s t [] o a = unfold All runs in tt
 answered-clear w h bs s t (d ∷ v) o a = passed-all w h bs t o s d v (a .legal) .clear
 
+-- they go along the axes by turns
+pub answered-turning : (w h : ℕ) (bs : List Block) (s t : Node) (v : List Dir) → All OpenBox bs → Answered (gridWith w h bs) s t v
+    → Turning level (runs (corners s v)) ⊎ Turning upright (runs (corners s v))
+unfolding Legal corners Turning runs
+answered-turning w h bs s t [] o a = inl tt
+answered-turning w h bs s t (d ∷ v) o a =
+    let f : Free (gridWith w h bs) s d = a .legal .0 in
+    either (axisOf d) (runs (s ∷ turns d (step d s) v))
+    (turning w h bs t o d s (step d s) v (straight-first (gridWith w h bs) d s f) (a .legal .1) (forward (gridWith w h bs) s t d v (a .legal) (a .shortest)))
+
 -- its corners make a wire that fits on the board
 pub answered-fits : (z : Size) (bs : List Block) (s t : Node) (v : List Dir) → All OpenBox bs
     → Answered (gridWith (z .w) (z .h) bs) s t v → ¬ (s ≡ t) → length (runs (corners s v)) ≤ most-runs → WireFits z (corners s v)
@@ -224,13 +234,10 @@ unfolding Legal corners
 answered-fits z bs s t [] o a n few = absurd (n (a .legal))
 answered-fits z bs s t (d ∷ v) o a n few =
     let r = passed-all (z .w) (z .h) bs t o s d v (a .legal) in
-    let f : Free (gridWith (z .w) (z .h) bs) s d = a .legal .0 in
-    let across-each = turning (z .w) (z .h) bs t o d s (step d s) v (straight-first (gridWith (z .w) (z .h) bs) d s f) (a .legal .1)
-    (forward (gridWith (z .w) (z .h) bs) s t d v (a .legal) (a .shortest)) in
     record {
       ends = unfold EndsDiffer in (λ e. n (e ∙ r .last));
       some = omega (arith, length-runs s (turns d (step d s) v), r .some);
       few = few;
-      turning = either (axisOf d) (s ∷ turns d (step d s) v) across-each;
+      turning = answered-turning (z .w) (z .h) bs s t (d ∷ v) o a;
       on = unfold All in (free-inside (gridWith (z .w) (z .h) bs) s d (a .legal .0) .0, r .inside);
     }

@@ -3,21 +3,22 @@
 use Prim.Native.Nat.{ℕ, _+_, _≤_}
 use native.Mathlib.Omega.{arith}
 use mathlib.Core.Path.{_≡_, ap, _∙_}
-use mathlib.Core.Logic.{_⊎_, inl, inr, ⊎-elim}
-use mathlib.Core.List.{List, [], _∷_}
+use mathlib.Core.Logic.{⊎-elim}
+use mathlib.Core.List.{List}
 use lib.Dec.{eqb}
 use lib.ListN.{length}
 use Rattle.paper.specs.declared.Size.{Size}
 use Rattle.paper.specs.declared.Item.{Item}
 use Rattle.paper.specs.Limits.{most-corners, most-runs}
-use Rattle.paper.specs.Grid.{Node, level, upright, Area, All}
+use Rattle.paper.specs.Grid.{Node, level, upright, All}
 use Rattle.paper.specs.Wire.{runs}
-use Rattle.paper.specs.Layout.{OnBoard, Turning, WireFits}
+use Rattle.paper.specs.Layout.{OnBoard, WireFits}
 use Rattle.paper.specs.Answer.{plain, Gives}
-use Rattle.paper.specs.Drawn.{shapeChecks, formChecks}
+use Rattle.paper.specs.Drawn.{formChecks}
 use Rattle.paper.specs.Laws.Says.{Says, says-as, says-eq}
 use Rattle.paper.specs.Laws.Checks.{Coded, Clear, clear-of, of-clear, one-verdict}
-use Rattle.paper.specs.Laws.Bent.{straight-or, shape-turning, turning-shape, shape-coded, first-straight}
+use Rattle.paper.specs.Laws.Bent.{by-turns, turning-shape, shape-coded}
+use Rattle.paper.specs.Laws.Traced.{either}
 use Rattle.blocks.specs.Growing.{stretchAt}
 use Rattle.blocks.specs.Laws.Lists.{length-listed}
 use Rattle.shapes.specs.declared.Fault.{Fault}
@@ -28,12 +29,6 @@ use Rattle.shapes.specs.Laws.Corners.{runs-are}
 pub form-coded : (ps : List Node) → Coded (formChecks ps)
 unfolding Coded
 form-coded ps = (omega arith, shape-coded 1 (runs ps))
-
--- runs whose shape is good go along the axes by turns
-by-turns : (rs : List Area) → 1 ≤ length rs → Clear (shapeChecks 1 rs) → Turning level rs ⊎ Turning upright rs
-by-turns [] h c = absurd (omega arith)
-by-turns (r ∷ rs) h c =
-    ⊎-elim (λ a. inl (shape-turning level 1 r rs a c)) (λ a. inr (shape-turning upright 1 r rs a c)) (straight-or r (first-straight 1 r rs c))
 
 module _ (s : Size) (m : Item) (lx : length (m .xs) ≡ most-corners) (ly : length (m .ys) ≡ most-corners) (n : ℕ) (some : 1 ≤ n) (few : n ≤ most-runs)
     (on : All (OnBoard s) (cornersOf m (n + 1))) (f : Fault) (g : Gives (formChecks (cornersOf m (n + 1))) (faultOf f)) where
@@ -48,7 +43,7 @@ module _ (s : Size) (m : Item) (lx : length (m .xs) ≡ most-corners) (ly : leng
         ends = c .0;
         some = omega (arith, runs-long);
         few = omega (arith, runs-long);
-        turning = by-turns (runs (cornersOf m (n + 1))) (omega (arith, runs-long)) (c .1);
+        turning = let t = by-turns 1 (runs (cornersOf m (n + 1))) (omega (arith, runs-long)) (c .1) in either (t .0) (runs (cornersOf m (n + 1))) (t .1);
         on = on;
       }
 

@@ -3,7 +3,7 @@
 use mathlib.Core.Path.{_≡_}
 use lib.ListN.{length}
 use borrow.Author.Needs.{needs}
-use Rattle.paper.specs.Layout.{ItemsFit}
+use Rattle.paper.specs.Layout.{ItemsApart, ItemsFit}
 use Rattle.paper.specs.Laws.Back.{layoutOf}
 use Rattle.paper.specs.Laws.Says.{says-as, says-always, says-never, said, said-not, denied, not-denied}
 use Rattle.paper.specs.Laws.Standing.{Standing, well-standing}
@@ -28,9 +28,14 @@ begun c = said-not (c .before .unused .ensures) (c .if2 .left)
 
 fitted : (c : tie.Else4)
     → let b = c .before .before .before .before .before .before .before .before .before .args .board in
-    ItemsFit (b .size) (layoutOf b .items)
+    ItemsApart (b .size) (layoutOf b .items)
 unfolding layoutOf
 fitted c = not-denied (c .before .items-fit .ensures) (c .if4 .left)
+
+along-none : (c : tie.Else5)
+    → let b = c .before .before .before .before .before .before .before .before .before .before .before .args .board in
+    ItemsFit (b .size) (layoutOf b .items)
+along-none c = record { two = fitted (c .before .before); seamless = not-denied (c .before .seamless .ensures) (c .if5 .left) }
 
 stands-requires : tie.Need-stands-requires
 stands-requires c κs = search needs
@@ -61,17 +66,25 @@ returns-4 : tie.Need-returns-4
 unfolding layoutOf
 returns-4 c =
     let u = c .before .before .before .before .before in
-    says-never (λ w. denied (c .before .items-fit .ensures) (c .if4 .taken) (fits-of _ (stood (u .before .before)) (begun u) w))
+    says-never (λ w. denied (c .before .items-fit .ensures) (c .if4 .taken) (fits-of _ (stood (u .before .before)) (begun u) w .two))
 
-undone-in-turn-requires : tie.Need-undone-in-turn-requires
-undone-in-turn-requires c κs = (stood (c .before .before .before .before .before .before .before), fitted c)
+seamless-requires : tie.Need-seamless-requires
+seamless-requires c κs = (stood (c .before .before .before .before .before .before .before), fitted c)
 
 returns-5 : tie.Need-returns-5
 returns-5 c =
-    let r = c .before .before .before .before in
+    let u = c .before .before .before .before .before .before .before in
+    says-never (λ w. denied (c .before .seamless .ensures) (c .if5 .taken) (fits-of _ (stood (u .before .before)) (begun u) w .seamless))
+
+undone-in-turn-requires : tie.Need-undone-in-turn-requires
+undone-in-turn-requires c κs = (stood (c .before .before .before .before .before .before .before .before .before), along-none c)
+
+returns-6 : tie.Need-returns-6
+returns-6 c =
+    let r = c .before .before .before .before .before .before in
     let u = r .before .before in
     let s = u .before .before in
-    says-as (λ t. well-laid _ (stood s) (not-denied (r .before .in-range .ensures) (r .if3 .left)) (fitted (c .before)) t)
+    says-as (λ t. well-laid _ (stood s) (not-denied (r .before .in-range .ensures) (r .if3 .left)) (along-none (c .before)) t)
     (λ w. undoes-of _ (stood s) (begun u) w)
     (c .undone-in-turn .ensures)
 
@@ -87,5 +100,7 @@ sound-spec =
     returns-3
     items-fit-requires
     returns-4
+    seamless-requires
+    returns-5
     undone-in-turn-requires
-    returns-5)
+    returns-6)

@@ -12,7 +12,7 @@ use Rattle.paper.specs.declared.Size.{Size}
 use Rattle.paper.specs.declared.Item.{Item}
 use Rattle.paper.specs.Limits.{most-blocks, most-runs}
 use Rattle.paper.specs.Grid.{All, Pairs}
-use Rattle.paper.specs.Layout.{Thing, idOf, areas, blockCount, ThingFits, ItemsFit}
+use Rattle.paper.specs.Layout.{Thing, idOf, areas, blockCount, ThingFits, ItemsApart}
 use Rattle.paper.specs.Laws.Lists.{all-join}
 use Rattle.paper.specs.Laws.Filled.{all-at}
 use Rattle.paper.specs.Laws.Back.{thingOf}
@@ -84,28 +84,28 @@ front-placed s ms n i w h f = record {
 
 -- ---- item by item, each held against those before it
 
-pub fits-none : (s : Size) → ItemsFit s []
+pub fits-none : (s : Size) → ItemsApart s []
 unfolding All Pairs blockCount
 fits-none s = record { rising = tt; each = tt; apart = tt; blocks-few = omega arith }
 
 module _ (ms : List Item) (long : length ms ≡ most-blocks) (d : Item) (n i : ℕ) (few : n ≤ most-blocks) (h : i < n) (s : Size) (last : ℕ) where
-  split : ItemsFit s (thingsOf n ms) → ItemsFit s (thingsOf i ms ++ thingOf (getD ms i d) ∷ map thingOf (drop (suc i) (take n ms)))
-  split f = subst (ItemsFit s) (things-split ms long d n i few h) f
+  split : ItemsApart s (thingsOf n ms) → ItemsApart s (thingsOf i ms ++ thingOf (getD ms i d) ∷ map thingOf (drop (suc i) (take n ms)))
+  split f = subst (ItemsApart s) (things-split ms long d n i few h) f
 
-  pub fits-stop : Tops last (thingsOf i ms) → getD ms i d .id ≤ last → Says false (ItemsFit s (thingsOf n ms))
+  pub fits-stop : Tops last (thingsOf i ms) → getD ms i d .id ≤ last → Says false (ItemsApart s (thingsOf n ms))
   fits-stop p l =
       let k : idOf (thingOf (getD ms i d)) ≤ last = omega (arith, thing-id (getD ms i d)) in
       says-never (λ f. tops-stop last (thingsOf i ms) (thingOf (getD ms i d)) p s _ k (split f))
 
-  pub fits-not : ¬ (Joins s (thingsOf i ms) (thingOf (getD ms i d))) → Says false (ItemsFit s (thingsOf n ms))
+  pub fits-not : ¬ (Joins s (thingsOf i ms) (thingOf (getD ms i d))) → Says false (ItemsApart s (thingsOf n ms))
   fits-not j = says-never (λ f. j (fits-joins s (thingsOf i ms) (thingOf (getD ms i d)) _ (split f)))
 
-  pub fits-next : ItemsFit s (thingsOf i ms) → Tops last (thingsOf i ms) → last < getD ms i d .id
-      → Joins s (thingsOf i ms) (thingOf (getD ms i d)) → ItemsFit s (thingsOf (i + 1) ms) × Tops (getD ms i d .id) (thingsOf (i + 1) ms)
+  pub fits-next : ItemsApart s (thingsOf i ms) → Tops last (thingsOf i ms) → last < getD ms i d .id
+      → Joins s (thingsOf i ms) (thingOf (getD ms i d)) → ItemsApart s (thingsOf (i + 1) ms) × Tops (getD ms i d .id) (thingsOf (i + 1) ms)
   fits-next f p l j =
       let t = thingOf (getD ms i d) in
       let k : last < idOf t = omega (arith, thing-id (getD ms i d)) in
       let e = sym (things-more ms long d n i few h) in (
-        subst (ItemsFit s) e (fits-more s (thingsOf i ms) t f (tops-lower last (thingsOf i ms) t p k) j),
+        subst (ItemsApart s) e (fits-more s (thingsOf i ms) t f (tops-lower last (thingsOf i ms) t p k) j),
         subst₂ Tops (thing-id (getD ms i d)) e (tops-more last (thingsOf i ms) t p k),
       )

@@ -9,12 +9,12 @@ use mathlib.Core.List.{List, [], _∷_, _++_}
 use lib.ListN.{length}
 use Rattle.paper.specs.declared.Size.{Size}
 use Rattle.paper.specs.Grid.{Any, All, Pairs}
-use Rattle.paper.specs.Layout.{Thing, keep-out, wire, idOf, areas, blockCount, Apart, ThingFits, Below, ItemsFit, add, Used}
+use Rattle.paper.specs.Layout.{Thing, keep-out, wire, idOf, areas, blockCount, Apart, ThingFits, Below, ItemsApart, add, Used}
 use Rattle.paper.specs.Laws.Lists.{all-imp, all-join, all-has, any-right}
 use Rattle.paper.specs.Laws.Among.{add-nil, add-cases, count-add}
 use Rattle.paper.specs.Laws.Apart.{apart-turn}
 use Rattle.paper.specs.Laws.Back.{has-add}
-use Rattle.paper.specs.Laws.Next.{fits-add}
+use Rattle.paper.specs.Laws.Next.{apart-add}
 use Rattle.paper.specs.Laws.Says.{Says, says-as}
 use Rattle.soundness.specs.Joining.{Joins}
 
@@ -34,7 +34,7 @@ pairs-add-back R turn t (u ∷ us) p =
     (λ c. let q : Pairs R (t ∷ u ∷ us) = rw (c .1) at p in q .0) (add-cases t u us)
 
 module _ (s : Size) (t : Thing) (ts : List Thing) where
-  add-joins : ItemsFit s (add t ts) → Joins s ts t
+  add-joins : ItemsApart s (add t ts) → Joins s ts t
   unfolding blockCount
   add-joins f = record {
     fits = all-has (ThingFits s) (add t ts) t (f .each) (has-add t ts);
@@ -42,12 +42,12 @@ module _ (s : Size) (t : Thing) (ts : List Thing) where
     blocks-few = omega (arith, f .blocks-few, count-add t ts);
   }
 
-  joins-add : ItemsFit s ts → ¬ (Used ts (idOf t)) → Joins s ts t → ItemsFit s (add t ts)
+  joins-add : ItemsApart s ts → ¬ (Used ts (idOf t)) → Joins s ts t → ItemsApart s (add t ts)
   unfolding blockCount
-  joins-add f n j = fits-add s t ts f n (j .fits) (j .apart) (omega (arith, j .blocks-few))
+  joins-add f n j = apart-add s t ts f n (j .fits) (j .apart) (omega (arith, j .blocks-few))
 
   -- of the items with one more only that one is held against the others
-  pub joins-said : (r : Bool) → ItemsFit s ts → ¬ (Used ts (idOf t)) → Says r (Joins s ts t) → Says r (ItemsFit s (add t ts))
+  pub joins-said : (r : Bool) → ItemsApart s ts → ¬ (Used ts (idOf t)) → Says r (Joins s ts t) → Says r (ItemsApart s (add t ts))
   joins-said r f n = says-as (joins-add f n) add-joins
 
 -- ---- one more after the last
@@ -83,10 +83,10 @@ count-more [] t us = omega arith
 count-more (u ∷ ts) t us = omega (arith, count-more ts t us)
 
 module _ (s : Size) (ts : List Thing) (t : Thing) where
-  pub fits-more : ItemsFit s ts → Lower t ts → Joins s ts t → ItemsFit s (ts ++ t ∷ [])
-  fits-more f l j = subst (ItemsFit s) (add-last t ts l) (joins-add s t ts f (lower-free t ts l) j)
+  pub fits-more : ItemsApart s ts → Lower t ts → Joins s ts t → ItemsApart s (ts ++ t ∷ [])
+  fits-more f l j = subst (ItemsApart s) (add-last t ts l) (joins-add s t ts f (lower-free t ts l) j)
 
-  module _ (us : List Thing) (f : ItemsFit s (ts ++ t ∷ us)) where
+  module _ (us : List Thing) (f : ItemsApart s (ts ++ t ∷ us)) where
     fits-lower : Lower t ts
     fits-lower = pairs-mid Below ts t us (f .rising)
 
@@ -125,6 +125,6 @@ module _ (last : ℕ) (ts : List Thing) (t : Thing) (p : Tops last ts) where
   not-lower (v ∷ us) h (inl e) a = omega (arith, a .0)
   not-lower (v ∷ us) h (inr u) a = not-lower us h u (a .1)
 
-  pub tops-stop : (s : Size) (us : List Thing) → idOf t ≤ last → ¬ (ItemsFit s (ts ++ t ∷ us))
+  pub tops-stop : (s : Size) (us : List Thing) → idOf t ≤ last → ¬ (ItemsApart s (ts ++ t ∷ us))
   tops-stop s us h f =
       ⊎-elim (λ z. omega (arith, z, id-fits s t (fits-joins s ts t us f .fits))) (λ u. not-lower ts h u (fits-lower s ts t us f)) (p .met)

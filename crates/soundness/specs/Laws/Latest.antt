@@ -11,12 +11,12 @@ use Rattle.paper.specs.declared.Item.{Item}
 use Rattle.paper.specs.declared.Change.{Change}
 use Rattle.paper.specs.declared.Board.{Board}
 use Rattle.paper.specs.Grid.{Any, All, Pairs}
-use Rattle.paper.specs.Layout.{Thing, idOf, Below, ItemsFit, Turn, added, taken, Has, Used, undo, CanUndo}
+use Rattle.paper.specs.Layout.{Thing, idOf, Below, ItemsApart, Turn, added, taken, Has, Used, undo, CanUndo}
 use Rattle.paper.specs.Padding.{itemOf, changeOf}
 use Rattle.paper.specs.Laws.Lists.{all-has, any-imp}
 use Rattle.paper.specs.Laws.Back.{thingOf, turnOf, layoutOf, ReadsBack, TurnsBack}
 use Rattle.paper.specs.Laws.Filled.{all-at}
-use Rattle.paper.specs.Laws.Next.{fits-without}
+use Rattle.paper.specs.Laws.Next.{apart-without}
 use Rattle.paper.specs.Laws.Says.{Says, says-as, says-never}
 use Rattle.paper.specs.Laws.Standing.{Standing, kept-is, thingAt, no-thing, thing-id, item-at}
 use Rattle.items.specs.Items.{Whole}
@@ -56,11 +56,11 @@ has-there (u ∷ us) (suc k) t p h e (inr q) = has-there us k t (p .1) (omega ar
 
 -- ---- when it can be undone: by its kind, and by what has its id
 
-module _ (b : Board) (st : Standing b) (f : ItemsFit (b .size) (layoutOf b .items)) (h : Change)
+module _ (b : Board) (st : Standing b) (f : ItemsApart (b .size) (layoutOf b .items)) (h : Change)
     (last : (c : Turn) (cs : List Turn) → layoutOf b .kept ≡ c ∷ cs → c ≡ turnOf h) where
   -- what is said of the turn that is read from h
   abbrev Back : Turn → Type 0
-  Back c = CanUndo c (layoutOf b .items) × ItemsFit (b .size) (undo c (layoutOf b .items))
+  Back c = CanUndo c (layoutOf b .items) × ItemsApart (b .size) (undo c (layoutOf b .items))
 
   goes : (r : Bool) (t : Turn) → turnOf h ≡ t → Says r (Back t) → GoesBack (layoutOf b) r
   unfolding GoesBack layoutOf
@@ -100,6 +100,6 @@ module _ (b : Board) (st : Standing b) (f : ItemsFit (b .size) (layoutOf b .item
       let back : thingOf (itemOf (thingAt us k)) ≡ thingAt us k = all-at ReadsBack no-thing us k l (st .items-back) in
       goes r _ (turn-added h e)
       (says-as
-      (λ q. (subst (Has us) (sym back ∙ ap thingOf (sym there ∙ q)) (has-at us k l), fits-without (b .size) (idOf t) us f))
+      (λ q. (subst (Has us) (sym back ∙ ap thingOf (sym there ∙ q)) (has-at us k l), apart-without (b .size) (idOf t) us f))
       (λ p. there ∙ ap itemOf (has-there us k t (f .rising) l (i ∙ sym (thing-id (h .item))) (p .0)) ∙ sym w)
       s)

@@ -11,7 +11,7 @@ use Rattle.paper.specs.declared.Size.{Size}
 use Rattle.paper.specs.declared.Board.{Board}
 use Rattle.paper.specs.Limits.{most-blocks, most-kept}
 use Rattle.paper.specs.Grid.{All}
-use Rattle.paper.specs.Layout.{Thing, ItemsFit, Turn, undo, CanUndo, Undoes, Layout}
+use Rattle.paper.specs.Layout.{Seamless, Thing, ItemsApart, ItemsFit, Turn, undo, CanUndo, Undoes, Layout}
 use Rattle.paper.specs.Padding.{boardOf}
 use Rattle.paper.specs.Laws.Lists.{all-imp}
 use Rattle.paper.specs.Laws.Back.{layoutOf, ReadsBack, TurnsBack, thing-back, board-back}
@@ -53,10 +53,10 @@ module _ (a b : Board) (p : Left a b) where
         let k = some-latest (layoutOf b .kept) (some-kept some) in
         says-never (λ u. let v : Undoes (b .size) (layoutOf b .items) (k .0 ∷ k .1)
         = subst (Undoes (b .size) (layoutOf b .items)) (k .2) (p .same .0 u) in
-        said-not (g (k .0) (k .1) (k .2)) e (v .0, v .1))
+        said-not (g (k .0) (k .1) (k .2)) e (v .0, v .1 .two))
 
     module _ (e : r ≡ true) (c : Turn) (cs : List Turn) (q : layoutOf b .kept ≡ c ∷ cs) where
-      back : CanUndo c (layoutOf b .items) × ItemsFit (b .size) (undo c (layoutOf b .items))
+      back : CanUndo c (layoutOf b .items) × ItemsApart (b .size) (undo c (layoutOf b .items))
       unfolding GoesBack layoutOf
       back = said (g c cs q) e
 
@@ -80,25 +80,56 @@ module _ (a b : Board) (p : Left a b) where
       few : length cs ≤ most-kept
       few = omega (arith, p .stands .kept-few, ap length q)
 
-      same-next : InTurn a ↔ Undoes (b .size) (undo c (layoutOf b .items)) cs
+      standing-next : Standing (boardOf next)
+      unfolding next
+      standing-next = standing next left-room few reads turns
+
+      same-next : Seamless (undo c (layoutOf b .items)) → InTurn a ↔ Undoes (b .size) (undo c (layoutOf b .items)) cs
       unfolding Undoes
-      same-next = (
+      same-next z = (
         λ u. (let v : Undoes (b .size) (layoutOf b .items) (c ∷ cs) = subst (Undoes (b .size) (layoutOf b .items)) q (p .same .0 u) in v .2),
-        λ u. p .same .1 (subst (Undoes (b .size) (layoutOf b .items)) (sym q) (back .0, back .1, u)),
+        λ u. p .same .1 (subst (Undoes (b .size) (layoutOf b .items)) (sym q) (back .0, record { two = back .1; seamless = z }, u)),
       )
 
-      left-board : Left a (boardOf next)
+      left-board : Seamless (undo c (layoutOf b .items)) → Left a (boardOf next)
       unfolding next boardOf
-      left-board =
+      left-board z =
           let l = next-is in
           record {
-            stands = standing next left-room few reads turns;
-            fits = rw l (back .1);
-            same = rw l same-next;
+            stands = standing-next;
+            fits = rw l (record { two = back .1; seamless = z });
+            same = rw l (same-next z);
           }
 
-      pub left-next : (d : Board) → d ≡ boardOf (record { size = b .size; items = undo c (layoutOf b .items); kept = cs }) → Left a d × (d .kept < b .kept)
+      apart-board : ItemsApart (boardOf next .size) (layoutOf (boardOf next) .items)
+      unfolding next boardOf
+      apart-board = let l = next-is in rw l (back .1)
+
+      seamless-board : Seamless (layoutOf (boardOf next) .items) ↔ Seamless (undo c (layoutOf b .items))
       unfolding next
-      left-next d x =
-          let k : d .kept ≡ length cs = ap (λ d. d .kept) x ∙ (unfold boardOf in refl) in
-          (subst (Left a) (sym x) left-board, omega (arith, kept-is b (p .stands), ap length q))
+      seamless-board = let l = ap (λ n. n .items) next-is in (λ z. subst Seamless l z, λ z. subst Seamless (sym l) z)
+
+      module _ (d : Board) (x : d ≡ boardOf (record { size = b .size; items = undo c (layoutOf b .items); kept = cs })) where
+        items-same : Seamless (layoutOf d .items) ↔ Seamless (undo c (layoutOf b .items))
+        unfolding next
+        items-same = subst (λ d. Seamless (layoutOf d .items) ↔ Seamless (undo c (layoutOf b .items))) (sym x) seamless-board
+
+        -- before the wires are looked at
+        pub left-apart : Standing d × ItemsApart (d .size) (layoutOf d .items)
+        unfolding next
+        left-apart = (subst Standing (sym x) standing-next, subst (λ d. ItemsApart (d .size) (layoutOf d .items)) (sym x) apart-board)
+
+        pub left-seamed : ¬ (Seamless (layoutOf d .items)) → Says false (InTurn a)
+        unfolding Undoes
+        left-seamed n =
+            says-never (λ u. let v : Undoes (b .size) (layoutOf b .items) (c ∷ cs) = subst (Undoes (b .size) (layoutOf b .items)) q (p .same .0 u) in
+            n (items-same .1 (v .1 .seamless)))
+
+        pub left-fewer : d .kept < b .kept
+        left-fewer =
+            let k : d .kept ≡ length cs = ap (λ d. d .kept) x ∙ (unfold boardOf in refl) in
+            omega (arith, kept-is b (p .stands), ap length q)
+
+        pub left-next : Seamless (layoutOf d .items) → Left a d
+        unfolding next
+        left-next z = subst (Left a) (sym x) (left-board (items-same .0 z))

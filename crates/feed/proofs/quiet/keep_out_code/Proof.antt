@@ -1,16 +1,19 @@
 -- `feed::quiet::keep_out_code` meets its contract: the checks one after another.
 -- Assumes nothing.
 use native.Mathlib.Omega.{arith}
-use mathlib.Core.Path.{_≡_, refl}
-use mathlib.Core.Logic.{inl, inr}
+use mathlib.Core.Path.{refl}
+use mathlib.Core.Logic.{_⊎_, inl, inr}
 use borrow.Author.Needs.{needs}
-use Rattle.paper.specs.Layout.{keep-outs, wires, RectFits, Used, areas, blockCount}
-use Rattle.paper.specs.Answer.{Gives, Enters, checks}
+use Rattle.paper.specs.Layout.{keep-out, keep-outs, wires, RectFits, Used, areas, blockCount, Laid}
+use Rattle.paper.specs.Answer.{Gives, Enters, Closes, checks}
 use Rattle.paper.specs.Laws.Back.{layoutOf}
-use Rattle.paper.specs.Laws.Says.{said, said-not, denied, not-denied}
+use Rattle.paper.specs.Laws.Says.{Says, said, said-not, denied, not-denied}
 use Rattle.blocks.specs.Laws.Held.{held-fits, count-held}
+use Rattle.blocks.specs.Laws.Board.{drawn}
+use Rattle.seams.specs.Laws.Closing.{held-keeps}
+use Rattle.feed.specs.Laws.Replying.{laid-now}
 use Rattle.feed.specs.Feeding.{KeepOutCode}
-use Rattle.feed.specs.Laws.Wiring.{hit-enters}
+use Rattle.feed.specs.Laws.Stopping.{hit-enters, stopped-says}
 use Rattle.feed.proofs.quiet.keep_out_code.Statement.{statement}
 use Rattle.feed.proofs.quiet.keep_out_code.Tie as tie
 
@@ -40,7 +43,7 @@ unfolding KeepOutCode Gives checks layoutOf
 returns-3 c = λ n. inr (c .before .before .before .before .if1 .left, inr (free (c .before .before), inl (denied (c .before .rect-fits .ensures) (c .if3 .taken), refl)))
 
 of-board-requires : tie.Need-of-board-requires
-of-board-requires c κs = c .before .before .before .before .before .before .pre
+of-board-requires c κs = drawn _ (c .before .before .before .before .before .before .pre)
 
 hit-requires : tie.Need-hit-requires
 hit-requires c κs = held-fits (c .of-board .ensures)
@@ -65,8 +68,24 @@ none : (e : tie.Else4) → let s = e .before .before .before .before .before .be
     ¬ (Enters (layoutOf (s .args .board)) (s .args .rect) keep-outs)
 none e = said-not (hit-enters _ _ (e .before .before .of-board .ensures) _ keep-outs _ (e .before .hit .ensures)) (e .if4 .left)
 
-hit-requires-2 : tie.Need-hit-requires-2
-hit-requires-2 c κs = held-fits (c .before .before .of-board .ensures)
+-- there are bounds
+now-laid : (e : tie.Else3) → Laid (layoutOf (e .before .before .before .before .before .before .args .board))
+unfolding layoutOf
+now-laid e = let s = e .before .before .before .before .before .before in laid-now _ (s .pre) (e .before .before .before .before .if1 .left)
+
+fits-now : (e : tie.Else3) → let s = e .before .before .before .before .before .before in RectFits (layoutOf (s .args .board) .size) (s .args .rect)
+unfolding layoutOf
+fits-now e = fits e
+
+stopped-requires : tie.Need-stopped-requires
+stopped-requires c κs = held-keeps (c .before .before .of-board .ensures)
+
+-- what is said of the wires
+along : (h : tie.After-stopped) → let s = h .before .before .before .before .before .before .before .before .before .before in
+    Says (h .stopped .result) (Enters (layoutOf (s .args .board)) (s .args .rect) wires ⊎ Closes (layoutOf (s .args .board)) (keep-out (s .args .id .number) (s .args .rect)))
+along h =
+    let o = h .before .before .before in
+    stopped-says _ _ (o .of-board .ensures) (now-laid (o .before)) _ _ (fits-now (o .before)) _ (h .stopped .ensures)
 
 returns-5 : tie.Need-returns-5
 unfolding KeepOutCode Gives checks layoutOf
@@ -82,15 +101,15 @@ returns-5 c =
           fits f,
           inr (
             none h,
-            inl (said (hit-enters _ _ (o .of-board .ensures) _ wires _ (c .before .hit2 .ensures)) (c .if5 .taken), refl),
+            inl (said (along (c .before)) (c .if5 .taken), refl),
           ),
         ),
       ),
     )
 
 no-wires : (e : tie.Else5) → let s = e .before .before .before .before .before .before .before .before .before .before .before in
-    ¬ (Enters (layoutOf (s .args .board)) (s .args .rect) wires)
-no-wires e = said-not (hit-enters _ _ (e .before .before .before .before .of-board .ensures) _ wires _ (e .before .hit2 .ensures)) (e .if5 .left)
+    ¬ (Enters (layoutOf (s .args .board)) (s .args .rect) wires ⊎ Closes (layoutOf (s .args .board)) (keep-out (s .args .id .number) (s .args .rect)))
+no-wires e = said-not (along (e .before)) (e .if5 .left)
 
 mul-if6 : tie.Need-mul-if6
 mul-if6 c =
@@ -164,7 +183,7 @@ keep-out-code-spec =
     of-board-requires
     hit-requires
     returns-4
-    hit-requires-2
+    stopped-requires
     returns-5
     mul-if6
     element-copy-out-if6

@@ -5,7 +5,7 @@ use mathlib.Core.Logic.{inl, inr}
 use borrow.Author.Needs.{needs}
 use Rattle.blocks.specs.declared.Look.the-variants.{Wires}
 use Rattle.blocks.specs.Flat.{FirstIs}
-use Rattle.feed.specs.Feeding.{StopsPin}
+use Rattle.feed.specs.Feeding.{FirstAt, StopsPin}
 use Rattle.feed.proofs.wires.near_wire.Statement.{statement}
 use Rattle.feed.proofs.wires.near_wire.Tie as tie
 
@@ -22,13 +22,13 @@ no-stop-requires : tie.Need-no-stop-requires
 no-stop-requires c κs = search needs
 
 returns : tie.Need-returns
-unfolding StopsPin
+unfolding StopsPin FirstAt
 returns c =
     let s = c .before .before .before in
     inr (inl (refl, s .before .pre .1, subst (FirstIs _ Wires _) (c .before .i .given .1) (s .scan .ensures)))
 
 returns-2 : tie.Need-returns-2
-unfolding StopsPin
+unfolding StopsPin FirstAt
 returns-2 c =
     let s = c .before .before .before in
     inr (inr (c .no-stop .ensures, s .before .pre .1, subst (FirstIs _ Wires _) (c .before .enum-told .given .1) (s .scan .ensures)))

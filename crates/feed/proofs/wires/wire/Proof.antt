@@ -9,6 +9,7 @@ use Rattle.paper.specs.Laws.One.{sound-rising}
 use Rattle.paper.specs.Laws.Standing.{well-standing, id-at}
 use Rattle.blocks.specs.Laws.Held.{held-fits, count-held}
 use Rattle.feed.specs.Feeding.{startChecks, PinsSaid, StopsPins, noWire, Wires}
+use Rattle.blocks.specs.Laws.Board.{drawn}
 use Rattle.feed.specs.Laws.Replying.{laid-now}
 use Rattle.feed.specs.Laws.Wiring.{said-item, said-plain, start-clear, refused-start, wire-asks, wires-told}
 use Rattle.feed.proofs.wires.wire.Statement.{statement}
@@ -28,10 +29,14 @@ pins-plain : (e : tie.Else1) → let h = e .before .before in let s = h .before 
 pins-plain e = said-plain _ _ _ (pins-said (e .before .before)) (e .if1 .left)
 
 of-board-requires : tie.Need-of-board-requires
-of-board-requires c κs = c .pre .0
+of-board-requires c κs = drawn _ (c .pre .0)
 
 pins-stop-requires : tie.Need-pins-stop-requires
-pins-stop-requires c κs = held-fits (c .of-board .ensures)
+unfolding layoutOf
+pins-stop-requires c κs =
+    let b = c .before in
+    let range = laid-now _ (b .pre .0) (λ z. omega (arith, z, b .pre .1)) .range in
+    (held-fits (c .of-board .ensures), omega (arith, range .0 .1), omega (arith, range .1 .1))
 
 id-at-requires : tie.Need-id-at-requires
 id-at-requires c κs =
@@ -96,7 +101,7 @@ returns-3 c =
     let o = e .before .before .before in
     let b = o .before in
     subst (Wires (layoutOf (b .args .board)) (b .args .p)) (sym (c .tell .ensures))
-    (wires-told _ (layoutOf (b .args .board)) _ _ _ (o .of-board .ensures)
+    (wires-told _ (layoutOf (b .args .board)) _ _ _ (o .of-board .ensures) (laid-now _ (b .pre .0) (λ z. omega (arith, z, b .pre .1)) .range)
     (start-clear _ _ _ (f .before .if2 .left) (pins-plain e)) (f .find-wire .ensures)
     (count-held (o .of-board .ensures)))
 

@@ -7,7 +7,7 @@ use mathlib.Core.List.{[]}
 use lib.ListN.{length}
 use borrow.Author.Needs.{needs}
 use Rattle.paper.specs.declared.Item.{Item}
-use Rattle.paper.specs.Layout.{ItemsFit}
+use Rattle.paper.specs.Layout.{ItemsApart}
 use Rattle.paper.specs.Laws.Says.{says-always, denied, not-denied}
 use Rattle.items.specs.Items.{Whole}
 use Rattle.items.specs.Laws.Arrays.{length-mapped}
@@ -18,7 +18,7 @@ use Rattle.soundness.proofs.several.items_fit.Statement.{statement}
 use Rattle.soundness.proofs.several.items_fit.Tie as tie
 
 abbrev Inv-loop : tie.InvT-loop
-Inv-loop size n items last₀ i₀ last i = (i ≤ n) × ItemsFit size (thingsOf i items) × Tops last (thingsOf i items)
+Inv-loop size n items last₀ i₀ last i = (i ≤ n) × ItemsApart size (thingsOf i items) × Tops last (thingsOf i items)
 
 abbrev μ-loop : tie.MeasureT-loop
 μ-loop size n items last₀ i₀ last i = n - i
@@ -84,7 +84,7 @@ returns-3 c =
     let l = c .before in
     let a = l .before .args in
     let e : l .loop .i ≡ a .n = omega arith in
-    says-always (subst (λ i. ItemsFit (a .size) (thingsOf i (a .t2))) e (l .loop .inv .1))
+    says-always (subst (λ i. ItemsApart (a .size) (thingsOf i (a .t2))) e (l .loop .inv .1))
 
 pub items-fit-spec : {M : Type 1} → statement M
 items-fit-spec =

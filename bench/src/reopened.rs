@@ -1,0 +1,72 @@
+//! What would be said if seams were left open, so that a tally can tell how often
+//! document 02's order 3 matters.
+
+use crate::board::Board;
+use crate::code::Code;
+use crate::drawn;
+use crate::drawn::slip::Slip;
+use crate::fault::Fault;
+use crate::item::Item;
+use crate::record::Record;
+use crate::route::{Method, Router};
+use crate::sheet::Seen;
+
+/// A board that leaves seams open and follows another one.
+pub struct Reopened {
+    board: Board,
+}
+
+impl Default for Reopened {
+    fn default() -> Reopened {
+        let router = Router::new(Method::BySize, Fault::OpenSeams);
+        Reopened { board: Board::with_router(router) }
+    }
+}
+
+impl Reopened {
+    /// Do seams change the answer to a lay, an ask or a keep-out that was just
+    /// seen? Other records pay no regard to them.
+    pub fn answers_otherwise(&mut self, seen: &Seen) -> bool {
+        let (without, may_matter) = match Record::read(seen.piece) {
+            // An accepted lay did not find its own wire on the board.
+            Some(Record::Lay { id, .. }) if seen.answer.code == Code::Accepted => {
+                (Some(id), has_seams(seen.board))
+            }
+            Some(Record::Lay { .. } | Record::Ask { .. }) => (None, has_seams(seen.board)),
+            Some(Record::Keepout { .. }) => (None, seen.answer.code == Code::MeetsWire),
+            _ => (None, false),
+        };
+        if may_matter {
+            self.follow(seen.board, without);
+        }
+        may_matter && self.board.take(seen.piece) != *seen.answer
+    }
+
+    /// Do seams change what is said of a drawn wire that was just seen?
+    pub fn judges_otherwise(&mut self, seen: &drawn::sheet::Seen) -> bool {
+        if !has_seams(seen.board) {
+            return false;
+        }
+        self.follow(seen.board, None);
+        let open = drawn::judge(&mut self.board, seen.numbers, Slip::None);
+        let told = |verdict: &drawn::Verdict| (verdict.finding, verdict.run, verdict.excess);
+        told(&open) != told(seen.verdict)
+    }
+
+    /// Takes over the items of a board without the one of an id, unless they stand
+    /// here already.
+    fn follow(&mut self, board: &Board, without: Option<u16>) {
+        let same_size = self.board.frame() == board.frame();
+        if !(same_size && self.board.items().eq(items_without(board, without))) {
+            self.board.stand(board.frame().copied(), items_without(board, without));
+        }
+    }
+}
+
+fn items_without(board: &Board, without: Option<u16>) -> impl Iterator<Item = (u16, &Item)> {
+    board.items().filter(move |(id, _)| Some(*id) != without)
+}
+
+fn has_seams(board: &Board) -> bool {
+    board.cover().seams().next().is_some()
+}
