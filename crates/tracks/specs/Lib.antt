@@ -9,4 +9,4 @@ pub mod Places
 pub mod Added
 pub mod Gathered
 pub mod Inserted
-pub mod Struck
+pub mod Put
