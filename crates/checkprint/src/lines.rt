@@ -5,15 +5,14 @@ use paper::Board;
 use paper::Judged;
 use records::number;
 use text::put_byte;
+use text::put_next;
 use text::put_number;
 use text::put_word;
 ghost use mathlib.Core.Path.{_≡_};
-ghost use mathlib.Core.List.{[], _∷_};
 ghost use Prim.Native.Nat.{_+_, _*_, _≤_};
 ghost use lib.ListN.{length, take};
 ghost use Rattle.paper.specs.Padding.{WellFormed};
-ghost use Rattle.text.specs.Text.{Part.number, Part.byte, Writes};
-ghost use Rattle.sheet.specs.Sheet.{space};
+ghost use Rattle.text.specs.Text.{Writes};
 ghost use Rattle.checkprint.specs.Checked.{most-pieces, line-room, wordsIn, toldOf, lineOf, lastLine, JudgedIn};
 
 // A piece counts at most 255 numbers.
@@ -36,15 +35,6 @@ fn put_words(bytes: &[u8], numbers: &mut [u16]) -> usize
 }
 
 // ---- a line
-
-// A space and a number.
-fn put_next(buffer: &mut [u8], at: usize, n: u32) -> usize
-    requires { ⌜ at + 11 ≤ length (now buffer) ⌝ }
-    ensures { λ r. ⌜ Writes (byte space ∷ number n ∷ []) (now (buffer .entry)) at (now (buffer .exit)) r × (r ≤ at + 11) ⌝ }
-{
-    let spaced = put_byte(buffer, at, b' ');
-    put_number(buffer, spaced, n)
-}
 
 // What stands after the code: with 0 the excess, else the run, where one is named.
 fn put_told(buffer: &mut [u8], at: usize, judged: Judged) -> usize

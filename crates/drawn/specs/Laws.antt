@@ -3,7 +3,6 @@
 -- the corners that the numbers are, and the length of their runs
 pub mod Numbers
 pub mod Long
--- where the runs go, and what is said of them
-pub mod Places
+-- what is said of them
 pub mod Excess
 pub mod Judging

@@ -2,10 +2,7 @@
 mod corners;
 
 use blocks::Blocks;
-use blocks::Look;
-use blocks::hit;
 use blocks::of_board;
-use blocks::stretch;
 use corners::long;
 use corners::wire_of;
 use paper::Board;
@@ -14,18 +11,15 @@ use paper::Judged;
 use paper::MOST_CORNERS;
 use paper::Pins;
 use paper::Size;
+use places::fault_of;
 use router::Route;
 use router::find_wire;
-use seams::entered;
 use shapes::Fault;
-use shapes::bad_shape;
-use shapes::fault_at;
 use soundness::sound;
 ghost use mathlib.Core.Path.{_≡_};
 ghost use Prim.Native.Nat.{ℕ, _+_, _<_, _≤_};
 ghost use Rattle.paper.specs.Limits.{most-runs, most-corners};
 ghost use Rattle.paper.specs.Grid.{gridWith};
-ghost use Rattle.paper.specs.Layout.{OnBoard};
 ghost use Rattle.paper.specs.Padding.{WellFormed};
 ghost use Rattle.paper.specs.Answer.{source, target};
 ghost use Rattle.paper.specs.Drawn.{JudgedOn, Judges};
@@ -33,72 +27,8 @@ ghost use Rattle.paper.specs.Laws.Back.{layoutOf};
 ghost use Rattle.paper.specs.Laws.Says.{Says};
 ghost use Rattle.paper.specs.Laws.Joins.{joined};
 ghost use Rattle.blocks.specs.Flat.{flat, Fits};
-ghost use Rattle.blocks.specs.Growing.{cornerAt};
-ghost use Rattle.seams.specs.Seaming.{Keeps};
 ghost use Rattle.router.specs.Route.{Asked, shortestOf};
-ghost use Rattle.drawn.specs.Drawing.{refusedBy, SomeHeld, Straight, RunSays, PlacesSay, AllSay, Reached, Over, pinsOf};
-
-// ---- the places of its runs
-
-// The item's corner k lies on the board.
-fn on_board(size: Size, item: Item, k: usize) -> bool
-    requires { ⌜ k < most-corners ⌝ }
-    ensures { λ r. ⌜ Says r (OnBoard size (cornerAt item k)) ⌝ }
-{
-    if item.xs[k] > size.w {
-        return false;
-    }
-    item.ys[k] <= size.h
-}
-
-// What stands in the way of the run at k.
-fn run_fault(size: Size, held: Blocks, item: Item, k: usize) -> Fault
-    requires { ⌜ Keeps held × (k < most-runs) × Straight item k ⌝ }
-    ensures { λ r. ⌜ RunSays size held item k r ⌝ }
-{
-    if !on_board(size, item, k) {
-        return fault_at(9, k);
-    }
-    if !on_board(size, item, k + 1) {
-        return fault_at(9, k);
-    }
-    let place = stretch(item, k);
-    if entered(held, place) {
-        return fault_at(20, k);
-    }
-    if hit(held, Look::Wires, place) {
-        return fault_at(24, k);
-    }
-    Fault { code: 0, run: 0 }
-}
-
-// The first of the item's n runs that something stands in the way of.
-fn bad_run(size: Size, held: Blocks, item: Item, n: usize) -> Fault
-    requires { ⌜ Keeps held × (n ≤ most-runs) × ((k : ℕ) → k < n → Straight item k) ⌝ }
-    ensures { λ r. ⌜ PlacesSay size held item n r ⌝ }
-{
-    let mut k: usize = 0;
-    while k < n {
-        let fault = run_fault(size, held, item, k);
-        if fault.code != 0 {
-            return fault;
-        }
-        k += 1;
-    }
-    Fault { code: 0, run: 0 }
-}
-
-// All that is said of the item's n runs, but its excess.
-pub fn fault_of(size: Size, held: Blocks, item: Item, n: usize) -> Fault
-    requires { ⌜ SomeHeld size held × (n ≤ most-runs) ⌝ }
-    ensures { λ r. ⌜ AllSay size held item n r ⌝ }
-{
-    let shape = bad_shape(item, n);
-    if shape.code != 0 {
-        return shape;
-    }
-    bad_run(size, held, item, n)
-}
+ghost use Rattle.drawn.specs.Drawing.{refusedBy, Reached, Over, pinsOf};
 
 // ---- the excess
 

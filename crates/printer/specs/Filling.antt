@@ -5,35 +5,17 @@ use native.Mathlib.Omega.{arith}
 use mathlib.Core.Path.{_≡_, refl, sym, ap, _∙_}
 use mathlib.Core.Logic.{_⊎_, inl, inr}
 use mathlib.Core.List.{List, [], _∷_, _++_, append-assoc, append-nil}
-use lib.ListN.{length, take, drop, length-append, length-take, length-drop, take-append-drop}
-use lib.Seq.{drop-append-le, drop-drop}
+use lib.ListN.{length, take, drop, length-append, length-take, length-drop}
 use Rattle.paper.specs.declared.Board.{Board}
 use Rattle.paper.specs.Layout.{fresh}
 use Rattle.paper.specs.Padding.{boardOf}
 use Rattle.sheet.specs.declared.Printed.{Printed}
-use Rattle.text.specs.Text.{Puts}
 use Rattle.sheet.specs.Sheet.{most-records, line-room, Stepped, Printing, linesOf, StepsIn}
-use Rattle.text.specs.Laws.Written.{puts-length, puts-join}
+use Rattle.text.specs.Laws.Written.{puts-length, puts-join, puts-part}
 use Rattle.printer.specs.declared.Place.{Place}
 use Rattle.printer.specs.Filled.{Within, Leads, here, further, Over, Filled, Fills, AllPrinted}
 
 -- ---- a line more
-
--- what is put into the part of a buffer from `at` on is put into the buffer
-puts-part : (bs b p : List ℕ) (at k r : ℕ) → at ≤ length b → Puts bs (take k (drop at b)) 0 p r
-    → Puts bs b at (take at b ++ (p ++ drop k (drop at b))) (at + r)
-puts-part bs b p at k r h q = record {
-  fits = omega (arith, q .fits, length-take k (drop at b), length-drop at b);
-  holds = ap (λ l. take at b ++ l) (ap (λ l. l ++ drop k (drop at b)) (q .holds) ∙ append-assoc bs _ _ ∙ ap (λ l. bs ++ l) rest)
-      ∙ sym (append-assoc (take at b) bs (drop (at + length bs) b));
-  next = omega (arith, q .next);
-}
-  where
-    rest : drop (0 + length bs) (take k (drop at b)) ++ drop k (drop at b) ≡ drop (at + length bs) b
-    rest =
-        let e : at + (0 + length bs) ≡ at + length bs = omega arith in
-        sym (drop-append-le (0 + length bs) (take k (drop at b)) (drop k (drop at b)) (q .fits))
-        ∙ ap (drop (0 + length bs)) (take-append-drop k (drop at b)) ∙ drop-drop (0 + length bs) at b ∙ ap (λ i. drop i b) e
 
 lines-more : (ts : List Stepped) (t : Stepped) → linesOf ts ++ t .line ≡ linesOf (ts ++ t ∷ [])
 unfolding linesOf

@@ -139,7 +139,7 @@ pub struct Printed {
 }
 
 // The place after the record that begins at `at`: 12 bytes on, or the file's end.
-fn after_record(size: usize, at: usize) -> usize
+pub fn after_record(size: usize, at: usize) -> usize
     requires { ⌜ at < size ⌝ }
     ensures { λ r. ⌜ r ≡ at + min 12 (size - at) ⌝ }
 {

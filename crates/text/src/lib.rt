@@ -32,6 +32,15 @@ pub fn put_number(buffer: &mut [u8], at: usize, n: u32) -> usize
     put_byte(buffer, next, digit(n % 10))
 }
 
+// A space and a number.
+pub fn put_next(buffer: &mut [u8], at: usize, n: u32) -> usize
+    requires { ⌜ at + 11 ≤ length (now buffer) ⌝ }
+    ensures { λ r. ⌜ Writes (byte 32 ∷ number n ∷ []) (now (buffer .entry)) at (now (buffer .exit)) r × (r ≤ at + 11) ⌝ }
+{
+    let spaced = put_byte(buffer, at, b' ');
+    put_number(buffer, spaced, n)
+}
+
 // Three letters and the line's end.
 pub fn put_word(buffer: &mut [u8], a: u8, b: u8, c: u8) -> usize
     requires { ⌜ 4 ≤ length (now buffer) ⌝ }

@@ -3,7 +3,7 @@
 use mathlib.Core.Path.{sym}
 use lib.Seq.{length-take-le}
 use borrow.Author.Needs.{needs}
-use Rattle.checkprint.specs.Laws.Placed.{put-within}
+use Rattle.text.specs.Laws.Written.{put-within}
 use Rattle.checkprint.proofs.run.Statement.{statement}
 use Rattle.checkprint.proofs.run.Tie as tie
 

@@ -22,10 +22,6 @@ use Rattle.checkprint.specs.Standing.{here, further, Stands, withWaiting
 
 -- ---- in the buffer
 
--- what was put at its start lies within it
-pub put-within : (bs buffer after : List ℕ) (r : ℕ) → Puts bs buffer 0 after r → r ≡ length (take r after)
-put-within bs buffer after r p = sym (length-take-le r after (omega (arith, p .fits, p .next, puts-length p)))
-
 pub nothing-put : (buffer : List ℕ) → Puts [] buffer 0 buffer 0
 nothing-put buffer = record { fits = omega arith; holds = refl; next = refl }
 

@@ -35,7 +35,8 @@ use Rattle.router.specs.Route.{Asked}
 use Rattle.shapes.specs.declared.Fault.{Fault}
 use Rattle.shapes.specs.Faults.{faultOf}
 use Rattle.drawn.specs.Laws.Numbers.{corners-back, item-long}
-use Rattle.drawn.specs.Drawing.{refusedBy, AllSay, Reached, Over, pinsOf}
+use Rattle.places.specs.Placing.{AllSay}
+use Rattle.drawn.specs.Drawing.{refusedBy, Reached, Over, pinsOf}
 
 -- ---- refused
 

@@ -1,8 +1,10 @@
 -- What holds of some, of each and of each two members of a list.
 -- Assumes nothing.
-use mathlib.Core.Path.{_≡_, refl, ap₂, subst}
+use Prim.Native.Nat.{ℕ}
+use mathlib.Core.Path.{_≡_, refl, sym, ap₂, subst, _∙_}
 use mathlib.Core.Logic.{_⊎_, inl, inr, ⊎-elim}
 use mathlib.Core.List.{List, [], _∷_, _++_, map, reverse, reverseAux}
+use lib.ListN.{length, length-map}
 use Rattle.paper.specs.Grid.{Any, All}
 
 -- ---- each
@@ -123,3 +125,8 @@ unfolding All Any
 all-none P [] a h = h
 all-none P (x ∷ xs) a (inl p) = a .0 p
 all-none P (x ∷ xs) a (inr h) = all-none P xs (a .1) h
+
+-- ---- how many
+
+pub length-mapped : (A B : Type 0) (f : A → B) (l : List A) (n : ℕ) → length (map f l) ≡ n → length l ≡ n
+length-mapped A B f l n e = sym (length-map l f) ∙ e

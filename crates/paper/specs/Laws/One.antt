@@ -53,7 +53,7 @@ one-outcome l Undo o o′ z p q =
 
 -- ---- one reply
 
-tells-same : (n d : ℕ) (ps : List Node) (b : Board) (s s₁ s₂ : List ℕ) (r₁ r₂ : Reply) → verdict r₁ ≡ verdict r₂
+pub tells-same : (n d : ℕ) (ps : List Node) (b : Board) (s s₁ s₂ : List ℕ) (r₁ r₂ : Reply) → verdict r₁ ≡ verdict r₂
     → Tells n d ps b s s₁ r₁ → Tells n d ps b s s₂ r₂ → (r₁ ≡ r₂) × (s₁ ≡ s₂)
 tells-same n d ps b s s₁ s₂ r₁ r₂ c p q =
     let long : r₁ .length ≡ r₂ .length = p .length-is ∙ sym (q .length-is) in

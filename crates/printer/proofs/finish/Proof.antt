@@ -1,7 +1,7 @@
 -- `printer::finish` meets its contract: what `put_last` writes lies within the buffer and stays there.
 -- Assumes nothing.
 use borrow.Author.Needs.{needs}
-use Rattle.printer.specs.Turns.{put-within}
+use Rattle.text.specs.Laws.Written.{put-within}
 use Rattle.printer.proofs.finish.Statement.{statement}
 use Rattle.printer.proofs.finish.Tie as tie
 

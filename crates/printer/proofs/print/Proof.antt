@@ -13,10 +13,10 @@ use borrow.Author.Tests.{ltb-false}
 use Rattle.paper.specs.Layout.{fresh}
 use Rattle.paper.specs.Padding.{boardOf}
 use Rattle.sheet.specs.Sheet.{Stepped}
-use Rattle.text.specs.Laws.Written.{puts-length}
+use Rattle.text.specs.Laws.Written.{puts-length, put-within}
 use Rattle.printer.specs.Filled.{Within, Leads, here, Over}
 use Rattle.printer.specs.Filling.{leads-join, leads-count, fills-over, all-printed}
-use Rattle.printer.specs.Turns.{left, fewer, put-within}
+use Rattle.printer.specs.Turns.{left, fewer}
 use Rattle.printer.proofs.print.Statement.{statement}
 use Rattle.printer.proofs.print.Tie as tie
 

@@ -7,7 +7,7 @@ use Rattle.paper.specs.Layout.{ItemsApart, ItemsFit}
 use Rattle.paper.specs.Laws.Back.{layoutOf}
 use Rattle.paper.specs.Laws.Says.{says-as, says-always, says-never, said, said-not, denied, not-denied}
 use Rattle.paper.specs.Laws.Standing.{Standing, well-standing}
-use Rattle.items.specs.Laws.Arrays.{length-mapped}
+use Rattle.paper.specs.Laws.Lists.{length-mapped}
 use Rattle.soundness.specs.Laws.Stands.{stands-whole}
 use Rattle.soundness.specs.Laws.Sound.{Unused, well-unused, well-laid, range-of, fits-of, undoes-of}
 use Rattle.soundness.proofs.sound.Statement.{statement}

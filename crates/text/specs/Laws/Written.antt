@@ -5,8 +5,8 @@ use native.Mathlib.Numerals.{add-one}
 use native.Mathlib.Omega.{arith}
 use mathlib.Core.Path.{_≡_, refl, sym, ap, ap₂, subst, _∙_}
 use mathlib.Core.List.{List, [], _∷_, _++_, append-assoc, append-nil}
-use lib.ListN.{length, take, drop, set, replicate, length-append, length-drop, take-append-drop}
-use lib.Seq.{take-at, drop-at, drop-drop, set-split, length-take-le}
+use lib.ListN.{length, take, drop, set, replicate, length-append, length-take, length-drop, take-append-drop}
+use lib.Seq.{take-at, drop-at, drop-append-le, drop-drop, set-split, length-take-le}
 use Rattle.text.specs.Text.{readOn, Decimal, Part, number, byte, Spells, Puts, Writes}
 use Rattle.text.specs.Laws.Decimal.{decimal-short, decimal-one, decimal-more}
 use Rattle.text.specs.Laws.Spelling.{one-spelling, spells-join, spells-byte, spells-number, number-spelled}
@@ -46,6 +46,26 @@ puts-join {bs} {cs} {b} {b₁} {b₂} {at} {r₁} {r₂} p q = record {
     back =
         let e : at + length bs + length cs ≡ at + length (bs ++ cs) = omega (arith, n) in
         sym (drop-drop (length cs) r₁ b₁) ∙ ap (drop (length cs)) rest ∙ drop-drop (length cs) (at + length bs) b ∙ ap (λ k. drop k b) e
+
+-- what was put at a buffer's start lies within it
+pub put-within : (bs buffer after : List ℕ) (r : ℕ) → Puts bs buffer 0 after r → r ≡ length (take r after)
+put-within bs buffer after r p = sym (length-take-le r after (omega (arith, p .fits, p .next, puts-length p)))
+
+-- what is put into the part of a buffer from `at` on is put into the buffer
+pub puts-part : (bs b p : List ℕ) (at k r : ℕ) → at ≤ length b → Puts bs (take k (drop at b)) 0 p r
+    → Puts bs b at (take at b ++ (p ++ drop k (drop at b))) (at + r)
+puts-part bs b p at k r h q = record {
+  fits = omega (arith, q .fits, length-take k (drop at b), length-drop at b);
+  holds = ap (λ l. take at b ++ l) (ap (λ l. l ++ drop k (drop at b)) (q .holds) ∙ append-assoc bs _ _ ∙ ap (λ l. bs ++ l) rest)
+      ∙ sym (append-assoc (take at b) bs (drop (at + length bs) b));
+  next = omega (arith, q .next);
+}
+  where
+    rest : drop (0 + length bs) (take k (drop at b)) ++ drop k (drop at b) ≡ drop (at + length bs) b
+    rest =
+        let e : at + (0 + length bs) ≡ at + length bs = omega arith in
+        sym (drop-append-le (0 + length bs) (take k (drop at b)) (drop k (drop at b)) (q .fits))
+        ∙ ap (drop (0 + length bs)) (take-append-drop k (drop at b)) ∙ drop-drop (0 + length bs) at b ∙ ap (λ i. drop i b) e
 
 pub writes-length : {ps : List Part} {b b′ : List ℕ} {at r : ℕ} → Writes ps b at b′ r → length b′ ≡ length b
 writes-length w = puts-length (w .put)

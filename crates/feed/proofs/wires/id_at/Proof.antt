@@ -9,7 +9,7 @@ use lib.Seq.{set-getD, getD-set-same}
 use borrow.Author.Needs.{needs}
 use Rattle.paper.specs.declared.Item.{Item}
 use Rattle.paper.specs.Padding.{no-item}
-use Rattle.items.specs.Laws.Arrays.{length-mapped}
+use Rattle.paper.specs.Laws.Lists.{length-mapped}
 use Rattle.feed.proofs.wires.id_at.Statement.{statement}
 use Rattle.feed.proofs.wires.id_at.Tie as tie
 

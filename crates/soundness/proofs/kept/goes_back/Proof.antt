@@ -13,7 +13,7 @@ use Rattle.paper.specs.Laws.Back.{layoutOf}
 use Rattle.paper.specs.Laws.Standing.{thingAt}
 use Rattle.items.specs.declared.Found.the-variants.{At}
 use Rattle.items.specs.Items.{IdAt}
-use Rattle.items.specs.Laws.Arrays.{length-mapped}
+use Rattle.paper.specs.Laws.Lists.{length-mapped}
 use Rattle.soundness.specs.Shape.{thingsOf}
 use Rattle.soundness.specs.Laws.Stands.{kept-few, stands-whole}
 use Rattle.soundness.specs.Laws.Front.{front-placed}

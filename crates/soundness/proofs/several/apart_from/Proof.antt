@@ -10,7 +10,7 @@ use Rattle.paper.specs.Layout.{Apart}
 use Rattle.paper.specs.Laws.Back.{thingOf}
 use Rattle.paper.specs.Laws.Says.{says-always, says-never, said, said-not}
 use Rattle.blocks.specs.Meeting.{Placed}
-use Rattle.items.specs.Laws.Arrays.{length-mapped}
+use Rattle.paper.specs.Laws.Lists.{length-mapped}
 use Rattle.soundness.specs.Shape.{thingsOf}
 use Rattle.soundness.specs.Laws.Front.{front-at, things-at, all-more}
 use Rattle.soundness.proofs.several.apart_from.Statement.{statement}

@@ -10,7 +10,7 @@ use Rattle.paper.specs.declared.Item.{Item}
 use Rattle.paper.specs.Layout.{ItemsApart}
 use Rattle.paper.specs.Laws.Says.{says-always, denied, not-denied}
 use Rattle.items.specs.Items.{Whole}
-use Rattle.items.specs.Laws.Arrays.{length-mapped}
+use Rattle.paper.specs.Laws.Lists.{length-mapped}
 use Rattle.soundness.specs.Shape.{thingsOf}
 use Rattle.soundness.specs.Laws.Joined.{Tops, tops-none}
 use Rattle.soundness.specs.Laws.Front.{front-at, front-placed, fits-none, fits-stop, fits-not, fits-next}

@@ -6,7 +6,7 @@ use mathlib.Core.Path.{_≡_, refl, ap, _∙_}
 use lib.ListN.{length}
 use borrow.Author.Needs.{needs}
 use Rattle.paper.specs.Layout.{blockCount}
-use Rattle.items.specs.Laws.Arrays.{length-mapped}
+use Rattle.paper.specs.Laws.Lists.{length-mapped}
 use Rattle.soundness.specs.Shape.{thingsOf}
 use Rattle.soundness.specs.Laws.Front.{counted-few, counted-more}
 use Rattle.soundness.proofs.several.total.Statement.{statement}

@@ -9,7 +9,7 @@ use Rattle.paper.specs.Laws.Says.{denied, not-denied}
 use Rattle.paper.specs.Limits.{most-kept}
 use Rattle.paper.specs.Padding.{changeOf, no-change}
 use Rattle.paper.specs.Laws.Back.{turnOf}
-use Rattle.items.specs.Laws.Arrays.{length-mapped}
+use Rattle.paper.specs.Laws.Lists.{length-mapped}
 use Rattle.soundness.specs.Laws.Places.{StoodUpTo, stood-none, stood-more, stood-not, stood-all}
 use Rattle.soundness.proofs.shape.changes_stand.Statement.{statement}
 use Rattle.soundness.proofs.shape.changes_stand.Tie as tie

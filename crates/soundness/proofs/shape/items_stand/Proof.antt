@@ -9,7 +9,7 @@ use Rattle.paper.specs.Laws.Says.{denied, not-denied}
 use Rattle.paper.specs.Limits.{most-blocks}
 use Rattle.paper.specs.Padding.{itemOf, no-item}
 use Rattle.paper.specs.Laws.Back.{thingOf}
-use Rattle.items.specs.Laws.Arrays.{length-mapped}
+use Rattle.paper.specs.Laws.Lists.{length-mapped}
 use Rattle.soundness.specs.Laws.Places.{StoodUpTo, stood-none, stood-more, stood-not, stood-all}
 use Rattle.soundness.proofs.shape.items_stand.Statement.{statement}
 use Rattle.soundness.proofs.shape.items_stand.Tie as tie

@@ -5,7 +5,7 @@ use mathlib.Core.Path.{_≡_}
 use lib.ListN.{length}
 use borrow.Author.Needs.{needs}
 use Rattle.paper.specs.Laws.Says.{says-never, denied, not-denied}
-use Rattle.items.specs.Laws.Arrays.{length-mapped}
+use Rattle.paper.specs.Laws.Lists.{length-mapped}
 use Rattle.soundness.specs.Laws.Stands.{count-few, kept-few, not-items, stands-said}
 use Rattle.soundness.proofs.shape.stands.Statement.{statement}
 use Rattle.soundness.proofs.shape.stands.Tie as tie

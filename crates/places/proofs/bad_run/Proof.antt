@@ -1,13 +1,13 @@
--- `drawn::bad_run` meets its contract: the runs before k have no fault.
+-- `places::bad_run` meets its contract: the runs before k have no fault.
 -- Assumes nothing.
 use native.Mathlib.Omega.{arith}
 use borrow.Author.Needs.{needs}
 use Prim.Native.Nat.{_≤_, _-_}
 use mathlib.Core.Path.{_≡_, refl}
 use lib.ListN.{length}
-use Rattle.drawn.specs.Laws.Places.{Left, left-start, left-stop, left-next, left-end}
-use Rattle.drawn.proofs.bad_run.Statement.{statement}
-use Rattle.drawn.proofs.bad_run.Tie as tie
+use Rattle.places.specs.Laws.{Left, left-start, left-stop, left-next, left-end}
+use Rattle.places.proofs.bad_run.Statement.{statement}
+use Rattle.places.proofs.bad_run.Tie as tie
 
 abbrev Inv-loop : tie.InvT-loop
 Inv-loop size held item n k₀ k = (k ≤ n) × Left size held item n k

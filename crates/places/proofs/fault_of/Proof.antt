@@ -1,12 +1,12 @@
--- `drawn::fault_of` meets its contract: shapes, then places.
+-- `places::fault_of` meets its contract: shapes, then places.
 -- Assumes nothing.
 use borrow.Author.Needs.{needs}
 use lib.ListN.{length}
 use mathlib.Core.Path.{_≡_}
 use Rattle.seams.specs.Laws.Closing.{held-keeps}
-use Rattle.drawn.specs.Laws.Places.{ill-shaped, well-shaped, straight-runs}
-use Rattle.drawn.proofs.fault_of.Statement.{statement}
-use Rattle.drawn.proofs.fault_of.Tie as tie
+use Rattle.places.specs.Laws.{ill-shaped, well-shaped, straight-runs}
+use Rattle.places.proofs.fault_of.Statement.{statement}
+use Rattle.places.proofs.fault_of.Tie as tie
 
 long-x : (c : tie.Start) → length (c .args .item .xs) ≡ 25
 long-x c = search needs

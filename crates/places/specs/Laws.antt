@@ -33,7 +33,7 @@ use Rattle.shapes.specs.Laws.Corners.{corners-one, runs-are}
 use Rattle.shapes.specs.declared.Fault.{Fault}
 use Rattle.shapes.specs.Faults.{faultOf, noFault, faultAt}
 use Rattle.shapes.specs.Laws.Fits.{form-coded}
-use Rattle.drawn.specs.Drawing.{OnHeld, Straight, RunSays, PlacesSay, AllSay}
+use Rattle.places.specs.Placing.{OnHeld, Straight, RunSays, PlacesSay, AllSay}
 
 -- ---- one run
 

@@ -1,4 +1,4 @@
--- `drawn::run_fault` meets its contract: the checks of one run in their order.
+-- `places::run_fault` meets its contract: the checks of one run in their order.
 -- Assumes nothing.
 use borrow.Author.Needs.{needs}
 use Prim.Native.Nat.{_+_}
@@ -9,9 +9,9 @@ use Rattle.blocks.specs.declared.Look.the-variants.{KeepOuts, Wires}
 use Rattle.blocks.specs.Growing.{cornerAt}
 use Rattle.blocks.specs.Flat.{Hit}
 use Rattle.seams.specs.Seaming.{HitOr}
-use Rattle.drawn.specs.Laws.Places.{off-first, off-second, keep-out-there, wire-there, none-there}
-use Rattle.drawn.proofs.run_fault.Statement.{statement}
-use Rattle.drawn.proofs.run_fault.Tie as tie
+use Rattle.places.specs.Laws.{off-first, off-second, keep-out-there, wire-there, none-there}
+use Rattle.places.proofs.run_fault.Statement.{statement}
+use Rattle.places.proofs.run_fault.Tie as tie
 
 -- what is known once both corners are tested
 first : (e : tie.Else1) → let s = e .before .before .args in OnBoard (s .size) (cornerAt (s .item) (s .k))

@@ -1,10 +1,10 @@
--- `checkprint::lines::put_next` meets its contract: a space, then the number, of 10 digits at most.
+-- `text::put_next` meets its contract: a space, then the number, of 10 digits at most.
 -- Assumes nothing.
 use native.Mathlib.Omega.{arith}
 use borrow.Author.Needs.{needs}
 use Rattle.text.specs.Laws.Written.{_then_, byte-reach, ten-digits}
-use Rattle.checkprint.proofs.lines.put_next.Statement.{statement}
-use Rattle.checkprint.proofs.lines.put_next.Tie as tie
+use Rattle.text.proofs.put_next.Statement.{statement}
+use Rattle.text.proofs.put_next.Tie as tie
 
 put-byte-requires : tie.Need-put-byte-requires
 put-byte-requires c κs = search needs

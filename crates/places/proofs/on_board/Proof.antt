@@ -1,9 +1,9 @@
--- `drawn::on_board` meets its contract.
+-- `places::on_board` meets its contract.
 -- Assumes nothing.
 use borrow.Author.Needs.{needs}
 use Rattle.paper.specs.Laws.Says.{says-as, says-le}
-use Rattle.drawn.proofs.on_board.Statement.{statement}
-use Rattle.drawn.proofs.on_board.Tie as tie
+use Rattle.places.proofs.on_board.Statement.{statement}
+use Rattle.places.proofs.on_board.Tie as tie
 
 mul-if1 : tie.Need-mul-if1
 mul-if1 c = search needs
