@@ -82,6 +82,17 @@ impl Board {
         self.router.node_blocked(p)
     }
 
+    /// Is every unit edge of a segment open? Not if it leaves the board.
+    pub fn open_along(&mut self, segment: Rect) -> bool {
+        let Some(frame) = self.frame else { return false };
+        let Rect { x0, y0, x1, y1 } = segment;
+        if !(frame.holds(Point::new(x0, y0)) && frame.holds(Point::new(x1, y1))) {
+            return false;
+        }
+        self.router.prepare(&frame, self.items.values());
+        self.router.open_along(&frame, segment)
+    }
+
     /// The items that block the node, by rising id.
     pub fn blockers(&self, p: Point) -> Vec<Blocker> {
         let Some(frame) = self.frame else { return Vec::new() };

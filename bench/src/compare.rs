@@ -1,8 +1,9 @@
 //! Compares the sheets of a program with the second router's, byte for byte.
 //!
-//! Two forms of files are compared, `Records` and `Drawn`; what differs between
-//! them is said by the trait `Form`, and all else is here once.
+//! Three forms of files are compared, `Records`, `Drawn` and `Crowding`; what
+//! differs between them is said by the trait `Form`, and all else is here once.
 
+mod crowding;
 mod drawn;
 mod form;
 mod plan;
@@ -18,6 +19,7 @@ use std::marker::PhantomData;
 use std::path::PathBuf;
 use std::time::Duration;
 
+pub use crowding::Crowding;
 pub use drawn::Drawn;
 pub use form::{Form, Printed};
 pub use plan::Made;

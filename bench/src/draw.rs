@@ -1,11 +1,14 @@
 //! A picture (SVG) of the board after a file. y points up.
 
+mod crowd;
 mod paper;
 
 use std::io::{self, Read};
 
 use crate::board::Board;
 use crate::code::Code;
+use crate::crowd::slip::Slip;
+use crate::crowd::Crowd;
 use crate::geometry::Point;
 use crate::item::{Frame, Item};
 use crate::record::{Pins, Record};
@@ -25,6 +28,7 @@ pub struct Scene {
 enum Instead {
     Versus(Versus),
     Drawn(Wire),
+    Crowd(Crowd),
 }
 
 /// The answers of two routers to one record: corners, none without a wire.
@@ -63,6 +67,12 @@ impl Scene {
         self
     }
 
+    /// The same board, with its crowding in the place of the last answer.
+    pub fn with_crowd(mut self) -> Scene {
+        self.instead = Crowd::of(&mut self.board, Slip::None).map(Instead::Crowd);
+        self
+    }
+
     pub fn svg(&self) -> String {
         let Some(frame) = self.board.frame() else { return no_board() };
         let mut paper = Paper::new(*frame);
@@ -75,10 +85,11 @@ impl Scene {
         for (_, item) in self.board.items() {
             paper.add_blocks(item);
         }
-        for (_, item) in self.board.items() {
-            if let Item::Wire(wire) = item {
-                paper.add_path("wire", wire.corners());
-            }
+        if let Some(Instead::Crowd(crowd)) = &self.instead {
+            crowd::add_edges(crowd, &mut paper);
+        }
+        for wire in self.board.wires() {
+            paper.add_path("wire", wire.corners());
         }
         for (id, item) in self.board.items() {
             paper.add_id(id, item);
@@ -90,6 +101,7 @@ impl Scene {
     fn add_answer(&self, paper: &mut Paper) {
         let wire = match &self.instead {
             Some(Instead::Versus(versus)) => return versus.add(paper),
+            Some(Instead::Crowd(_)) => return paper.add_legend(&crowd::LEGEND),
             Some(Instead::Drawn(wire)) => {
                 paper.add_legend(&[("last", "drawn wire, from s to t")]);
                 Some(wire)
@@ -116,6 +128,7 @@ impl Scene {
         match (&self.instead, &self.last) {
             (Some(Instead::Versus(_)), _) => note += "; two answers that differ",
             (Some(Instead::Drawn(_)), _) => note += "; two verdicts that differ",
+            (Some(Instead::Crowd(crowd)), _) => note += &crowd::note(crowd),
             (None, Some(wire)) => {
                 note +=
                     &format!("; last answer: length {}, detour {}", wire.length(), wire.detour())

@@ -8,6 +8,7 @@
 mod aim;
 mod bricks;
 mod broken;
+pub mod crowd;
 pub mod drawn;
 mod episodes;
 mod maker;
@@ -80,7 +81,7 @@ const EARLY: i32 = 75;
 
 impl Style {
     pub fn named(name: &str) -> Option<&'static Style> {
-        STYLES.iter().find(|style| style.name == name)
+        STYLES.iter().chain(&crowd::OWN_STYLES).find(|style| style.name == name)
     }
 
     /// The file of a seed, with `count` records.

@@ -8,8 +8,9 @@
 //! twelve bytes, `board` keeps the items and decides the codes, `cells` says which
 //! seams between keep-outs are closed, `blocked` what blocks a pin, `route` picks
 //! one of the two searches (`unit`, `wide`), `sheet` prints. `drawn` judges wires
-//! drawn by hand. The other tools are `generate`, `tally` (with `reopened`), `text`
-//! and `draw`; `fault` is there for the tests, and for `reopened`.
+//! drawn by hand, `crowd` counts open edges of tracks. The other tools are
+//! `generate`, `tally` (with `reopened`), `text` and `draw`; `fault` is there for
+//! the tests, and for `reopened`.
 //! Another router's sheets are compared by `compare`, and `cases` makes a fixed
 //! file for it. Speed is measured by `question` (the file), `questions` (what is
 //! asked), `timing` and `sheet_timing`, beside the `peer`. `launch` starts other
@@ -21,6 +22,7 @@ pub mod cases;
 pub mod cells;
 pub mod code;
 pub mod compare;
+pub mod crowd;
 pub mod draw;
 pub mod drawn;
 pub mod fault;

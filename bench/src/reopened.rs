@@ -3,6 +3,7 @@
 
 use crate::board::Board;
 use crate::code::Code;
+use crate::crowd::{self, Crowd};
 use crate::drawn;
 use crate::drawn::slip::Slip;
 use crate::fault::Fault;
@@ -51,6 +52,15 @@ impl Reopened {
         let open = drawn::judge(&mut self.board, seen.numbers, Slip::None);
         let told = |verdict: &drawn::Verdict| (verdict.finding, verdict.run, verdict.excess);
         told(&open) != told(seen.verdict)
+    }
+
+    /// Do seams change the crowding sheet of a board?
+    pub fn crowds_otherwise(&mut self, sheet: &Crowd, board: &Board) -> bool {
+        if !has_seams(board) {
+            return false;
+        }
+        self.follow(board, None);
+        Crowd::of(&mut self.board, crowd::slip::Slip::None).as_ref() != Some(sheet)
     }
 
     /// Takes over the items of a board without the one of an id, unless they stand

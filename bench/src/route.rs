@@ -116,25 +116,42 @@ impl Router {
         self.blocks.iter().any(|block| block.interior_holds(p)) || self.cover.closes_node(p)
     }
 
+    /// Is every unit edge of a segment on the board open? On larger boards the
+    /// blocks are asked: one of them blocks a unit edge of the segment exactly if
+    /// its interior meets the segment, since both have whole ends.
+    pub fn open_along(&mut self, frame: &Frame, segment: Rect) -> bool {
+        if self.by_units(frame) {
+            return self.unit_map(frame).open_along(segment);
+        }
+        let meets = |block: &Rect| block.interior_meets(segment);
+        !self.blocks.iter().any(meets) && !self.cover.closes_part_of(segment)
+    }
+
     /// The answered wire between two different nodes that are not blocked.
     pub fn shortest(&mut self, frame: &Frame, s: Point, t: Point) -> Option<Wire> {
-        let by_units = match self.method {
+        if self.by_units(frame) {
+            return self.unit_map(frame).shortest(s, t);
+        }
+        if self.wide_stale {
+            self.wide.lay_out(frame, &self.blocks, &self.cover, self.fault);
+            self.wide_stale = false;
+        }
+        self.wide.shortest(s, t)
+    }
+
+    fn by_units(&self, frame: &Frame) -> bool {
+        match self.method {
             Method::BySize => frame.nodes() <= UNIT_SEARCH_NODES,
             Method::Unit => true,
             Method::Wide => false,
-        };
-        if by_units {
-            if self.unit_stale {
-                self.unit.lay_out(frame, &self.blocks, &self.cover);
-                self.unit_stale = false;
-            }
-            self.unit.shortest(s, t)
-        } else {
-            if self.wide_stale {
-                self.wide.lay_out(frame, &self.blocks, &self.cover, self.fault);
-                self.wide_stale = false;
-            }
-            self.wide.shortest(s, t)
         }
+    }
+
+    fn unit_map(&mut self, frame: &Frame) -> &mut UnitMap {
+        if self.unit_stale {
+            self.unit.lay_out(frame, &self.blocks, &self.cover);
+            self.unit_stale = false;
+        }
+        &mut self.unit
     }
 }

@@ -90,6 +90,15 @@ pub enum Last {
     Cut,
 }
 
+impl Last {
+    pub fn word(self) -> &'static str {
+        match self {
+            Last::End => "end",
+            Last::Cut => "cut",
+        }
+    }
+}
+
 /// Prints the sheet of a file. `watch` is shown each record with its answer.
 pub fn print(
     input: impl Read,
@@ -114,7 +123,7 @@ pub fn print(
             }
         }
     };
-    output.write_all(if last == Last::Cut { b"cut\n" } else { b"end\n" })?;
+    writeln!(output, "{}", last.word())?;
     output.flush()?;
     Ok(last)
 }

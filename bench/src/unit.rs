@@ -104,6 +104,17 @@ impl UnitMap {
         }
     }
 
+    /// Is every unit edge of a segment on the board open?
+    pub fn open_along(&self, segment: Rect) -> bool {
+        let Rect { x0, y0, x1, y1 } = segment;
+        let open = |x, y, dir| self.open[self.index(Point::new(x, y))] & bit(dir) != 0;
+        if y0 == y1 {
+            (x0..x1).all(|x| open(x, y0, Dir::E))
+        } else {
+            (y0..y1).all(|y| open(x0, y, Dir::N))
+        }
+    }
+
     /// The answered wire between two different nodes, if there is one.
     pub fn shortest(&mut self, s: Point, t: Point) -> Option<Wire> {
         let wire = self.spread(t, s).then(|| self.trace(s, t));

@@ -117,6 +117,37 @@ fn a_drawn_wire_is_drawn() {
     }
 }
 
+/// P11's board: nine tracks with 31 edges, of which the seam is shut and the last of
+/// the track at 5 is open behind it.
+#[test]
+fn crowding_is_drawn() {
+    let crowd = |records: &[Vec<u8>]| {
+        let scene = Scene::of(records.concat().as_slice()).expect("memory can be read");
+        scene.with_crowd().svg()
+    };
+    let board = [bounds(10, 10, 1), keepout(1, 2, 2, 5, 8), keepout(2, 5, 2, 8, 8)];
+    let svg = crowd(&[&board[..], &[ask(0, 0, 9, 9)]].concat());
+    assert_well_formed(&svg);
+    let edges = |class: &str| {
+        let edge = |line: &&str| line.starts_with("<line ") && line.contains(class);
+        svg.lines().filter(edge).count()
+    };
+    assert_eq!((edges("\"shut\""), edges("\"open\""), edges("\"stretch\"")), (1, 1, 29));
+    assert_eq!(svg.matches("class=\"mark\"").count(), 9);
+    for text in ["; 30 of 31 edges", ">2/3<", ">3/3<", ">4/4<", ">shut<"] {
+        assert!(svg.contains(text), "{text} is missing");
+    }
+    // The last answer is not there; where no board is, that is said as ever.
+    assert!(!svg.contains("class=\"pin\"") && !svg.contains("last answer"));
+    assert!(crowd(&[ask(0, 0, 9, 9)]).contains("no board"));
+    // Any size fits the paper, and the legend too.
+    for (w, h) in [(1, 1), (30_000, 30_000), (30_000, 1), (1, 30_000)] {
+        let svg = crowd(&[bounds(w, h, 1), keepout(1, 0, 0, 1, 1)]);
+        assert_well_formed(&svg);
+        assert!((700.0..=1_100.0).contains(&value(&svg, "<svg", "width")), "{w} x {h}");
+    }
+}
+
 #[test]
 fn y_points_up() {
     let low = svg(&[bounds(10, 10, 1), keepout(1, 0, 0, 2, 2)]);

@@ -103,11 +103,23 @@ fn generates() {
 
 #[test]
 fn draws() {
-    let output = run(&["draw"], &worked_input());
-    assert!(
-        text(&output.stdout).starts_with("<svg ") && text(&output.stdout).ends_with("</svg>\n")
-    );
+    for args in [&["draw"][..], &["draw", "--crowd"]] {
+        let output = run(args, &worked_input());
+        let picture = text(&output.stdout);
+        assert!(picture.starts_with("<svg ") && picture.ends_with("</svg>\n"), "{args:?}");
+        assert_eq!(picture.contains("class=\"stretch\""), args.len() == 2);
+        assert_eq!(output.status.code(), Some(0));
+    }
+}
+
+#[test]
+fn prints_the_crowding_sheet() {
+    let output = run(&["print", "crowd"], &worked_input());
+    assert_eq!(text(&output.stdout), "x 0 1 1\nx 10 1 1\ny 0 1 1\ny 10 1 1\nend\n");
+    assert_eq!(text(&output.stderr), "");
     assert_eq!(output.status.code(), Some(0));
+    assert_eq!(text(&run(&["print", "crowd"], b"short").stdout), "2\nend\n");
+    assert_eq!(run(&["gen", "1", "crowded", "2"], b"").stdout.len(), 24);
 }
 
 /// Sees that a command line is refused with these words and the usage.
@@ -126,7 +138,11 @@ fn a_wrong_command_line_shows_the_usage() {
         (&[][..], "no command"),
         (&["paint"], "unknown command 'paint'"),
         (&["print", "x"], "print takes nothing"),
+        (&["print", "crowd", "x"], "print takes nothing"),
         (&["draw", "x"], "draw takes nothing"),
+        (&["draw", "--crowd", "x"], "draw takes nothing"),
+        (&["compare", "crowd", "--files", "-1"], "--files is '-1', not a number"),
+        (&["compare", "crowd", "--records", "1"], "compare does not know --records"),
         (&["gen"], "gen takes SEED STYLE [COUNT]"),
         (&["gen", "1"], "gen takes SEED STYLE [COUNT]"),
         (&["gen", "1", "small", "2", "3"], "gen takes SEED STYLE [COUNT]"),
@@ -186,7 +202,8 @@ fn packs_prints_and_tallies_drawn_wires() {
 fn a_failed_read_is_told() {
     let commands = ["print", "tally", "pack", "unpack", "draw"].map(|command| vec![command]);
     let drawn = ["print", "tally", "pack", "unpack"].map(|command| vec![command, "drawn"]);
-    for command in commands.into_iter().chain(drawn) {
+    let crowd = [vec!["print", "crowd"], vec!["draw", "--crowd"]];
+    for command in commands.into_iter().chain(drawn).chain(crowd) {
         let input = File::open(env!("CARGO_MANIFEST_DIR")).expect("it can be opened");
         let output = bench(&command).stdin(input).output().expect("the program runs");
         assert_eq!(output.stdout, b"", "{command:?}");

@@ -37,7 +37,8 @@ pub trait Form {
     /// The bytes of a record, if the piece is one.
     fn record(piece: &[u8]) -> Option<&[u8]>;
 
-    /// The index of the piece that a line, counted from 1, answers.
+    /// The index of the piece that a line, counted from 1, answers; the last one, if
+    /// all of them do together.
     fn piece_of_line(pieces: &[&[u8]], line: usize) -> Option<usize>;
 
     /// The file as readable text.

@@ -1,6 +1,12 @@
 //! Which random files are compared.
 
 use crate::limits::MAX_RECORDS;
+use crate::rng::Rng;
+
+/// So many files end with the longest ones.
+const MANY: usize = 1_000;
+/// Of a hundred files that are counted as files, how many end early.
+const CUT_SHORT: i32 = 40;
 
 /// A file to be made, named by what it is made from.
 #[derive(Clone, Copy)]
@@ -53,6 +59,25 @@ impl Plan {
         if long {
             parts.extend(self.longest);
         }
+        self.numbered(parts, seed)
+    }
+
+    /// So many files, the first of them from `seed` and empty. Some are as long as
+    /// the round says, the others end before that. Very many end with the longest.
+    pub fn so_many(&self, files: usize, seed: u64) -> Vec<Made> {
+        let longest = if files >= MANY { self.longest } else { &[] };
+        let (mut parts, mut rng) = (vec![("mixed", 0)], Rng::new(seed));
+        let usual = (files - longest.len()).saturating_sub(parts.len());
+        for (style, most) in self.round.iter().cycle().take(usual) {
+            let short = rng.chance(CUT_SHORT);
+            parts.push((*style, if short { rng.range(1, *most as i32) as usize } else { *most }));
+        }
+        parts.extend(longest);
+        parts.truncate(files);
+        self.numbered(parts, seed)
+    }
+
+    fn numbered(&self, parts: Vec<(&'static str, usize)>, seed: u64) -> Vec<Made> {
         // Past the largest seed they begin anew at 0.
         let made = |(number, (style, count))| {
             let seed = seed.wrapping_add(number as u64);

@@ -61,7 +61,9 @@ impl Rival {
             .stderr(Stdio::null())
             .spawn()
             .map_err(failed)?;
-        // Each piece has a line at most, and there is a last one.
+        // Each piece has a line at most, and there is a last one. A crowding sheet
+        // has up to 188 lines of 14 bytes, less than bounds and one more piece may
+        // print; after bounds alone it has four.
         let lines = pieces + 1;
         let fault = self.wait(&mut child, &output, lines);
         let mut sheet = Vec::new();

@@ -17,6 +17,12 @@ const BELOW: f64 = 92.0;
 const OVERHANG: f64 = 16.0;
 /// The picture is never narrower: the title and the legend need the room.
 const LEAST_WIDTH: f64 = 620.0;
+/// Marks beside the board and what is told of them: the length of a mark, half the
+/// width of a letter, the least between two words, and the height of a line.
+const MARK: f64 = 12.0;
+const HALF_LETTER: f64 = 3.2;
+const APART: f64 = 5.0;
+const LINE: f64 = 13.0;
 /// Boards of up to this size show their unit grid.
 const MOST_GRID_LINES: i32 = 60;
 
@@ -36,6 +42,14 @@ text { font-family: 'DejaVu Sans', Verdana, sans-serif; fill: #22262b; }
 .last { stroke: #d4480b; stroke-width: 4; }
 .other { stroke: #7a2fa0; stroke-width: 4; stroke-dasharray: 9 9; }
 .wire, .last, .other { fill: none; stroke-linejoin: round; stroke-linecap: round; }
+.open { stroke: #7cc48f; stroke-width: 3; }
+.stretch { stroke: #1f8a43; stroke-width: 5; }
+.shut { stroke: #c8261d; stroke-width: 3; stroke-dasharray: 5 4; }
+.mark { stroke-width: 5; }
+.fine .open, .fine .mark { stroke-width: 1.5; }
+.fine .stretch { stroke-width: 2; }
+.fine .shut { stroke-width: 1.5; stroke-dasharray: 3 2; }
+.told { font-size: 10px; text-anchor: middle; }
 .pin { fill: #fff; stroke: #d4480b; stroke-width: 3; }
 .pinname { font-size: 11px; font-weight: bold; text-anchor: middle; fill: #d4480b; }
 ";
@@ -44,6 +58,13 @@ pub fn no_board() -> String {
     let text = "no board: no bounds were accepted";
     let body = format!("<text x=\"{LEFT}\" y=\"55\" class=\"title\">{text}</text>\n");
     picture(LEAST_WIDTH, 100.0, &body)
+}
+
+/// A mark beside the board, at an x or y, and what is told of it.
+pub struct Mark {
+    pub at: i32,
+    pub colour: String,
+    pub told: String,
 }
 
 /// A whole picture of the given size.
@@ -60,6 +81,8 @@ pub struct Paper {
     frame: Frame,
     wide: f64,
     high: f64,
+    /// Where the legend ends.
+    legend: f64,
     body: String,
 }
 
@@ -67,7 +90,7 @@ impl Paper {
     pub fn new(frame: Frame) -> Paper {
         let scale = LONG_SIDE / f64::from(frame.w.max(frame.h));
         let side = |units: i32| (f64::from(units) * scale).max(LEAST_SIDE);
-        Paper { frame, wide: side(frame.w), high: side(frame.h), body: String::new() }
+        Paper { frame, wide: side(frame.w), high: side(frame.h), legend: 0.0, body: String::new() }
     }
 
     pub fn stretched(&self) -> bool {
@@ -124,10 +147,10 @@ impl Paper {
         self.rect(self.frame.rect(), "board");
         if w <= MOST_GRID_LINES && h <= MOST_GRID_LINES {
             for x in 1..w {
-                self.add_grid_line(Point::new(x, 0), Point::new(x, h));
+                self.add_line(Point::new(x, 0), Point::new(x, h), "grid");
             }
             for y in 1..h {
-                self.add_grid_line(Point::new(0, y), Point::new(w, y));
+                self.add_line(Point::new(0, y), Point::new(w, y), "grid");
             }
         }
         let (below, left) = (self.y(0) + OVERHANG + 16.0, self.x(0) - OVERHANG - 16.0);
@@ -137,12 +160,56 @@ impl Paper {
         self.text(left, self.y(h) + 4.0, "label", &h.to_string());
     }
 
-    fn add_grid_line(&mut self, from: Point, to: Point) {
+    pub fn add_line(&mut self, from: Point, to: Point, class: &str) {
         let (x1, y1) = (self.x(from.x), self.y(from.y));
         let (x2, y2) = (self.x(to.x), self.y(to.y));
         self.line(&format!(
-            "<line x1=\"{x1:.2}\" y1=\"{y1:.2}\" x2=\"{x2:.2}\" y2=\"{y2:.2}\" class=\"grid\"/>"
+            "<line x1=\"{x1:.2}\" y1=\"{y1:.2}\" x2=\"{x2:.2}\" y2=\"{y2:.2}\" class=\"{class}\"/>"
         ));
+    }
+
+    /// Begins a group of things of a class; `end_group` ends it.
+    pub fn begin_group(&mut self, class: &str) {
+        self.line(&format!("<g class=\"{class}\">"));
+    }
+
+    pub fn end_group(&mut self) {
+        self.line("</g>");
+    }
+
+    /// A coloured mark below each x, and above it what is told of it, where there is
+    /// room.
+    pub fn add_marks_below(&mut self, marks: impl Iterator<Item = Mark>) {
+        let (low, high) = (self.y(0) + 3.0, self.y(self.frame.h) - 6.0);
+        let mut free_from = 0.0;
+        for Mark { at, colour, told } in marks {
+            let x = self.x(at);
+            self.add_mark(&format!("M{x:.2} {low:.2} v{MARK}"), &colour);
+            let half_text = HALF_LETTER * told.len() as f64;
+            if x - half_text >= free_from {
+                self.text(x, high, "told", &told);
+                free_from = x + half_text + APART;
+            }
+        }
+    }
+
+    /// The same left of each y, and right of it.
+    pub fn add_marks_beside(&mut self, marks: impl Iterator<Item = Mark>) {
+        let (low, high) = (self.x(0) - 3.0, self.x(self.frame.w) + 6.0);
+        let mut free_up_to = f64::MAX;
+        for Mark { at, colour, told } in marks {
+            let y = self.y(at);
+            self.add_mark(&format!("M{low:.2} {y:.2} h-{MARK}"), &colour);
+            if y <= free_up_to {
+                let half_text = HALF_LETTER * told.len() as f64;
+                self.text(high + half_text, y + 4.0, "told", &told);
+                free_up_to = y - LINE;
+            }
+        }
+    }
+
+    fn add_mark(&mut self, path: &str, colour: &str) {
+        self.line(&format!("<path d=\"{path}\" stroke=\"{colour}\" class=\"mark\"/>"));
     }
 
     /// The line round a keep-out, of which the outer half is seen.
@@ -227,12 +294,13 @@ impl Paper {
         for (class, about) in answers {
             self.line(&format!("<path d=\"M{x} {} h26\" class=\"{class}\"/>", y - 4.0));
             self.text(x + 34.0, y, "note", about);
-            x += 136.0;
+            x += 48.0 + 6.8 * about.len() as f64;
         }
+        self.legend = x;
     }
 
     pub fn finish(self) -> String {
-        let wide = (LEFT + self.wide + RIGHT).max(LEAST_WIDTH);
+        let wide = (LEFT + self.wide + RIGHT).max(self.legend).max(LEAST_WIDTH);
         picture(wide, ABOVE + self.high + BELOW, &self.body)
     }
 }

@@ -90,12 +90,16 @@ fn full_board(maker: &mut Maker) -> Mix {
 /// Adds keep-outs and wires until the board has that many blocks; a board with
 /// little room may stay below.
 fn fill(maker: &mut Maker, mix: &Mix, blocks: usize) {
-    let adding = Mix { weights: [75, 25, 0, 0, 0, 0], ..*mix };
+    fill_with(maker, &Mix { weights: [75, 25, 0, 0, 0, 0], ..*mix }, blocks);
+}
+
+/// The same with a mix that only adds.
+pub fn fill_with(maker: &mut Maker, adding: &Mix, blocks: usize) {
     for _ in 0..4 * MAX_BLOCKS {
         if maker.board.block_count() >= blocks {
             return;
         }
-        maker.stir(&adding, 1);
+        maker.stir(adding, 1);
     }
 }
 

@@ -15,7 +15,10 @@ pub fn maze(maker: &mut Maker) {
     // A maze is made from left to right; in half of them x and y are swapped.
     let turned = maker.rng.chance(50);
     match maker.rng.range(0, 2) {
-        0 => comb(maker, turned),
+        0 => {
+            let walls = turns(maker, MAX_BLOCKS as i32);
+            comb(maker, turned, walls);
+        }
         1 => courses(maker, turned),
         _ => posts(maker, turned),
     }
@@ -35,8 +38,7 @@ fn turns(maker: &mut Maker, most: i32) -> i32 {
 
 /// Wires as walls, from below and from above in turn. A wall's box reaches past
 /// the edge, so each wall is passed at its one open end, in two more runs.
-fn comb(maker: &mut Maker, turned: bool) {
-    let walls = turns(maker, MAX_BLOCKS as i32);
+pub fn comb(maker: &mut Maker, turned: bool, walls: i32) {
     let clearance = maker.rng.range(1, 4);
     let pitch = 2 * clearance + maker.rng.range(0, 3);
     let gap = clearance + maker.rng.range(0, 2);
@@ -104,12 +106,12 @@ fn somewhere(maker: &mut Maker, columns: (i32, i32), high: i32) -> Point {
     Point::new(maker.rng.range(columns.0, columns.1), maker.rng.range(0, high))
 }
 
-fn bounds(maker: &mut Maker, turned: bool, long: i32, high: i32, clearance: i32) {
+pub fn bounds(maker: &mut Maker, turned: bool, long: i32, high: i32, clearance: i32) {
     let (w, h) = if turned { (high, long) } else { (long, high) };
     maker.bounds(w, h, clearance);
 }
 
-fn rect(turned: bool, rect: Rect) -> Rect {
+pub fn rect(turned: bool, rect: Rect) -> Rect {
     let Rect { x0, y0, x1, y1 } = rect;
     if turned {
         Rect::new(y0, x0, y1, x1)

@@ -1,6 +1,7 @@
 //! What several test files need.
 #![allow(dead_code)] // each test file uses its own part
 
+pub mod crowd;
 pub mod drawn;
 pub mod naive;
 pub mod programs;
@@ -50,8 +51,13 @@ const MOST_NODES: i32 = 4_000;
 
 /// Does a record leave the board small enough for the naive router?
 pub fn is_small(record: &[u8]) -> bool {
+    is_below(record, MOST_NODES)
+}
+
+/// Does a record leave the board with no more than about so many nodes?
+pub fn is_below(record: &[u8], nodes: i32) -> bool {
     match Record::read(record) {
-        Some(Record::Bounds { w, h, .. }) => w.saturating_mul(h) <= MOST_NODES,
+        Some(Record::Bounds { w, h, .. }) => w.saturating_mul(h) <= nodes,
         _ => true,
     }
 }

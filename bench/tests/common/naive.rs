@@ -3,8 +3,9 @@
 //! keeps whole lists of items to go back to, tests every unit edge against
 //! every block, and finds wires by comparing spelled words. `seams` writes down the
 //! cells of keep-outs. `pins` says what is in the way of a pin, node by node.
-//! `drawn` judges wires drawn by hand, step by step.
+//! `drawn` judges wires drawn by hand, step by step. `crowd` counts open edges.
 
+pub mod crowd;
 pub mod drawn;
 mod pins;
 mod seams;

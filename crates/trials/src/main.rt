@@ -9,21 +9,32 @@
 //   slice N                    from here on N numbers are lent, at most 60
 //   view                       prints the numbers that were lent last, as they stand now
 //   display                    prints the board
+//   index                      from here on an index is kept beside the board, at first one of all zeros, and records are fed to both
+//   crowd                      prints the crowding sheet of the board and the index: its code, how many tracks, a line for each
+//   Bit AXIS TRACK EDGE        turns a bit of the index over: AXIS 0 for upright tracks, 1 for level ones
+//   Track AXIS PLACE V         writes where a track stands; past the last place, how many there are
 //   mark, equal                remembers the board; prints whether the board is that one, number for number
 //   Size W H C, Items N, Kept N, Put PLACE ID RUNS X:Y.., Change PLACE KIND ID RUNS X:Y..
 //                              written into the board, as a caller may hand in any
-// A record fed prints its number in the trial, code, the pin and the id if not both are 0, length, detour, how many corners, the corners, `same` or `changed` for the board,
-// and `kept` if the numbers past the last corner are the marks that stood there before, else `touched`. A drawn wire prints `drawn`, its code,
-// run and excess.
+// A record fed prints its number in the trial, code, the pin and the id if not both are 0, length, detour, how many corners, the corners, `same`
+// or `changed` for the board, and `kept` if the numbers past the last corner are the marks that stood there before, else `touched`; where an
+// index is kept, also `same` or `changed` for that. A drawn wire prints `drawn`, its code, run and excess.
 mod bytes;
+mod crowd;
 mod lent;
 mod numbers;
 mod same;
 mod say;
 mod words;
 
+use beside::Kept;
+use beside::feed_beside;
 use bytes::record_of;
+use crowd::crowd_word;
+use crowd::say_index;
 use feed::feed;
+use index::Index;
+use index::no_index;
 use items::begin;
 use lent::marks;
 use libc::STDIN_FILENO;
@@ -56,10 +67,12 @@ fn least(n: usize, most: usize) -> usize
 
 // ---- a trial
 
-// `fed`: how many records so far; `slice`: what was lent last.
+// `fed`: how many records so far; `slice`: what was lent last; `beside`: the index is kept.
 struct Trial {
     board: Board,
     marked: Board,
+    index: Index,
+    beside: bool,
     lent: usize,
     slice: [u16; MOST_LENT],
     fed: u32,
@@ -77,6 +90,8 @@ fn new_trial() -> Trial {
     Trial {
         board: fresh(),
         marked: fresh(),
+        index: no_index(),
+        beside: false,
         lent: LEAST_SLICE,
         slice: marks(),
         fed: 0,
@@ -87,21 +102,48 @@ fn next(fed: u32) -> u32 {
     if fed < 65535 { fed + 1 } else { fed }
 }
 
+// What a record leaves is told.
+fn tell(trial: Trial, kept: Kept, slice: [u16; MOST_LENT]) -> Trial {
+    let reply = kept.reply;
+    let index = kept.index;
+    let before = trial.board;
+    let after = reply.board;
+    let was = trial.index;
+    let mut left = trial;
+    left.fed = next(trial.fed);
+    left.board = after;
+    left.index = index;
+    left.slice = slice;
+    say_number(left.fed as u64);
+    say_reply(reply, slice, same_board(before, after));
+    if trial.beside {
+        say_index(was, index);
+    }
+    say(b"\n");
+    left
+}
+
+// The bytes are fed to the board, and to the index if one is kept.
+fn fed(trial: Trial, bytes: &[u8], answer: &mut [u16]) -> Kept {
+    let board = trial.board;
+    let index = trial.index;
+    if trial.beside {
+        return feed_beside(board, index, bytes, answer);
+    }
+    let reply = feed(board, bytes, answer);
+    Kept {
+        reply: reply,
+        index: index,
+    }
+}
+
 // The first bytes are fed.
 fn feed_bytes(trial: Trial, bytes: [u8; MOST_BYTES], count: usize) -> Trial {
     let n = least(count, MOST_BYTES);
     let lent = least(trial.lent, MOST_LENT);
-    let before = trial.board;
     let mut slice = marks();
-    let reply = feed(before, &bytes[..n], &mut slice[..lent]);
-    let after = reply.board;
-    let mut left = trial;
-    left.fed = next(trial.fed);
-    left.board = after;
-    left.slice = slice;
-    say_number(left.fed as u64);
-    say_reply(reply, slice, same_board(before, after));
-    left
+    let kept = fed(trial, &bytes[..n], &mut slice[..lent]);
+    tell(trial, kept, slice)
 }
 
 fn feed_record(trial: Trial, kind: u16, id: u16, n: Numbers, from: usize) -> Trial
@@ -128,6 +170,7 @@ fn follow(trial: Trial, line: &[u8]) -> Trial {
         b'=' => title(line),
         b'S' | b'I' | b'K' | b'P' | b'C' => write_word(trial, word, n),
         b's' | b'v' | b'd' | b'm' | b'e' => look_word(trial, word, n),
+        b'i' | b'c' | b'B' | b'T' => crowd_word(trial, word, n),
         _ => record_word(trial, word, n),
     }
 }

@@ -24,7 +24,7 @@ pub(crate) fn say_number(v: u64) {
 }
 
 // A blank and a number.
-fn say_next(v: u64) {
+pub(crate) fn say_next(v: u64) {
     say(b" ");
     say_number(v);
 }
@@ -72,9 +72,9 @@ pub(crate) fn say_reply(reply: Reply, slice: [u16; MOST_LENT], same: bool) {
         say(b" changed");
     }
     if kept_from(slice, corners * 2) {
-        say(b" kept\n");
+        say(b" kept");
     } else {
-        say(b" touched\n");
+        say(b" touched");
     }
 }
 

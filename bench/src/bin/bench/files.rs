@@ -3,6 +3,8 @@
 use std::io::{self, BufReader, BufWriter};
 
 use bench::board::Board;
+use bench::crowd::slip::Slip as CrowdSlip;
+use bench::crowd::{self, Crowd};
 use bench::drawn;
 use bench::drawn::pieces::MOST_BYTES;
 use bench::drawn::slip::Slip;
@@ -22,12 +24,28 @@ pub fn print() -> Result<(), Failure> {
     let printed = sheet::print(input, output, Board::default(), |seen| {
         progress.now_and_then(|| format!("{} records so far", seen.number));
     });
-    printed.map(|_| ()).map_err(|stopped| match stopped {
+    printed.map(|_| ()).map_err(stopped)
+}
+
+pub fn print_crowd() -> Result<(), Failure> {
+    let mut progress = Progress::of("print crowd");
+    let mut board = Board::default();
+    let last = crowd::sheet::take_all(BufReader::new(io::stdin()), &mut board, |number| {
+        progress.now_and_then(|| format!("{number} records so far"));
+    });
+    let last = last.map_err(stopped)?;
+    let sheet = Crowd::of(&mut board, CrowdSlip::None);
+    let output = BufWriter::new(io::stdout());
+    crowd::sheet::print(output, sheet.as_ref(), last, CrowdSlip::None).map_err(unwritten)
+}
+
+fn stopped(stopped: Stopped) -> Failure {
+    match stopped {
         Stopped::Write(error) => unwritten(error),
         Stopped::Read { record, error } => {
             Failure::Told(format!("cannot read record {record}: {error}"))
         }
-    })
+    }
 }
 
 pub fn print_drawn() -> Result<(), Failure> {

@@ -10,7 +10,7 @@ use std::env;
 use std::io::{self, BufReader, Write};
 use std::process::ExitCode;
 
-use bench::compare::{Drawn, Records};
+use bench::compare::{Crowding, Drawn, Records};
 use bench::draw::Scene;
 use bench::tally::Tally;
 use bench::{cases, drawn, text};
@@ -36,6 +36,7 @@ fn run(args: &[&str]) -> Result<(), Failure> {
         [] => outcome::usage("no command"),
         ["print"] => files::print(),
         ["print", "drawn"] => files::print_drawn(),
+        ["print", "crowd"] => files::print_crowd(),
         ["tally"] => {
             let tally = Tally::of(BufReader::new(io::stdin())).map_err(unread)?;
             write(tally.to_string().as_bytes())
@@ -45,11 +46,10 @@ fn run(args: &[&str]) -> Result<(), Failure> {
         ["pack", "drawn"] => write(&drawn::text::pack(&read()?).map_err(bad_line)?),
         ["unpack"] => write(text::unpack(&read()?).as_bytes()),
         ["unpack", "drawn"] => write(drawn::text::unpack(&read()?).as_bytes()),
-        ["draw"] => {
-            let scene = Scene::of(BufReader::new(io::stdin())).map_err(unread)?;
-            write(scene.svg().as_bytes())
-        }
+        ["draw"] => write(scene()?.svg().as_bytes()),
+        ["draw", "--crowd"] => write(scene()?.with_crowd().svg().as_bytes()),
         ["compare", "drawn", rest @ ..] => programs::compare::<Drawn>(rest),
+        ["compare", "crowd", rest @ ..] => programs::compare::<Crowding>(rest),
         ["compare", rest @ ..] => programs::compare::<Records>(rest),
         ["judge", rest @ ..] => programs::judge(rest),
         ["cases", "stdin"] => write(&cases::records()),
@@ -59,10 +59,18 @@ fn run(args: &[&str]) -> Result<(), Failure> {
         ["gen", rest @ ..] => write(&files::generate(rest)?),
         ["questions", rest @ ..] => write(&files::questions(rest)?),
         ["time", rest @ ..] => time::time(rest),
-        ["draw", ..] => outcome::usage("draw takes nothing on the command line"),
-        [command @ ("print" | "tally" | "pack" | "unpack"), ..] => {
+        ["draw", ..] => outcome::usage("draw takes nothing on the command line but --crowd"),
+        ["print", ..] => {
+            outcome::usage("print takes nothing on the command line but 'drawn' or 'crowd'")
+        }
+        [command @ ("tally" | "pack" | "unpack"), ..] => {
             outcome::usage(format!("{command} takes nothing on the command line but 'drawn'"))
         }
         [command, ..] => outcome::usage(format!("unknown command '{command}'")),
     }
+}
+
+/// The board that the records on standard input lead to.
+fn scene() -> Result<Scene, Failure> {
+    Scene::of(BufReader::new(io::stdin())).map_err(unread)
 }

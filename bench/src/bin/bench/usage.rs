@@ -1,7 +1,7 @@
 //! What the command line can be.
 
 use bench::generate::drawn::{DEFAULT_WIRES, OWN_STYLES};
-use bench::generate::{DEFAULT_COUNT, STYLES};
+use bench::generate::{crowd, DEFAULT_COUNT, STYLES};
 use bench::questions::KINDS;
 
 const COMMANDS: &str = "\
@@ -12,7 +12,8 @@ usage: bench COMMAND, reading standard input and writing standard output
   tally                   records -> how often each code came, 11 and 18 by pin
   pack                    readable text -> records
   unpack                  records -> readable text
-  draw                    records -> an SVG picture of the board
+  draw [--crowd]          records -> an SVG picture of the board; with --crowd
+                          its tracks, edge by edge, in place of the last answer
   compare [--records N] [--seed S] [--program PROGRAM] [FILE...]
                           nothing -> the first difference of PROGRAM's sheets
                           (trackprint's unless given) from this router's, on
@@ -40,6 +41,14 @@ the same for wires drawn by hand; pieces are records and drawn wires:
                           nothing -> the first difference of PROGRAM's lines
                           (checkprint's unless given) from this router's, on
                           random pieces with N wires in all, or on the FILEs
+
+the crowding sheet of the board that records leave:
+
+  print crowd             records -> a line for each track
+  compare crowd [--files N] [--seed S] [--program PROGRAM] [FILE...]
+                          nothing -> the first difference of PROGRAM's sheets
+                          (crowdprint's unless given) from this router's, on N
+                          random files, or on the FILEs
 ";
 
 /// The commands, with the styles of the generators and the names of questions.
@@ -53,7 +62,7 @@ pub fn text() -> String {
     };
     list(
         format!("styles of gen (COUNT is {DEFAULT_COUNT} records unless given)"),
-        STYLES.iter().map(|style| (style.name, style.about)).collect(),
+        STYLES.iter().chain(&crowd::OWN_STYLES).map(|style| (style.name, style.about)).collect(),
     );
     list(
         format!("more styles of gen drawn (WIRES is {DEFAULT_WIRES} unless given)"),

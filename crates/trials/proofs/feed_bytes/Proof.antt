@@ -18,32 +18,20 @@ marks-requires c κs = search needs
 array-share-prefix-bytes : tie.Need-array-share-prefix-bytes
 array-share-prefix-bytes c = search needs
 
-slice-aggregate-feed : tie.Need-slice-aggregate-feed
-slice-aggregate-feed c = simp length-take (omega arith)
+slice-aggregate-fed : tie.Need-slice-aggregate-fed
+slice-aggregate-fed c = simp length-take (omega arith)
 
 array-borrow-prefix-slice : tie.Need-array-borrow-prefix-slice
 array-borrow-prefix-slice c = search needs
 
-slice-aggregate-feed-2 : tie.Need-slice-aggregate-feed-2
-slice-aggregate-feed-2 c = simp length-take (omega arith)
+slice-aggregate-fed-2 : tie.Need-slice-aggregate-fed-2
+slice-aggregate-fed-2 c = simp length-take (omega arith)
 
-feed-requires : tie.Need-feed-requires
-feed-requires c κs = search needs
+fed-requires : tie.Need-fed-requires
+fed-requires c κs = search needs
 
-next-requires : tie.Need-next-requires
-next-requires c κs = search needs
-
-cast-say-number : tie.Need-cast-say-number
-cast-say-number c = search needs
-
-say-number-requires : tie.Need-say-number-requires
-say-number-requires c κs = search needs
-
-same-board-requires : tie.Need-same-board-requires
-same-board-requires c κs = search needs
-
-say-reply-requires : tie.Need-say-reply-requires
-say-reply-requires c κs = search needs
+tell-requires : tie.Need-tell-requires
+tell-requires c κs = search needs
 
 returns : tie.Need-returns
 returns c = search needs
@@ -56,13 +44,9 @@ feed-bytes-spec =
     least-requires-2
     marks-requires
     array-share-prefix-bytes
-    slice-aggregate-feed
+    slice-aggregate-fed
     array-borrow-prefix-slice
-    slice-aggregate-feed-2
-    feed-requires
-    next-requires
-    cast-say-number
-    say-number-requires
-    same-board-requires
-    say-reply-requires
+    slice-aggregate-fed-2
+    fed-requires
+    tell-requires
     returns)
