@@ -9,6 +9,7 @@ use blocks::Place;
 use blocks::scan;
 use libc::STDIN_FILENO;
 use libc::STDOUT_FILENO;
+use paper::Mode;
 use paper::Pins;
 use paper::Size;
 use router::Route;
@@ -254,7 +255,7 @@ fn ask(sum: u64, file: &[u8], from: usize) -> u64
     };
     let held = blocks_at(file, from);
     if may_ask(size, held, p) {
-        return mix_answer(sum, find_wire(size, held, p));
+        return mix_answer(sum, find_wire(size, held, p, Mode::Plain));
     }
     sum
 }

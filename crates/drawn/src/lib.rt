@@ -9,6 +9,7 @@ use paper::Board;
 use paper::Item;
 use paper::Judged;
 use paper::MOST_CORNERS;
+use paper::Mode;
 use paper::Pins;
 use paper::Size;
 use places::fault_of;
@@ -48,7 +49,7 @@ fn excess(size: Size, held: Blocks, p: Pins, length: u32) -> u32
     requires { ⌜ Fits held × Asked size (flat held) p × Reached (gridWith (size .w) (size .h) (joined (flat held))) (source p) (target p) length ⌝ }
     ensures { λ r. ⌜ Over (gridWith (size .w) (size .h) (joined (flat held))) (source p) (target p) length r ⌝ }
 {
-    let found = find_wire(size, held, p);
+    let found = find_wire(size, held, p, Mode::Plain);
     let route = found.route;
     length - shortest(route)
 }

@@ -12,6 +12,7 @@ use paper::Board;
 use paper::Item;
 use paper::MOST_BLOCKS;
 use paper::MOST_CORNERS;
+use paper::Mode;
 use paper::Pins;
 use paper::Size;
 use paper::Verdict;
@@ -175,7 +176,7 @@ pub(crate) fn wire(board: Board, p: Pins) -> Wired
     if stop.code != 0 {
         return no_wire(verdict(stop.code, 0, 0));
     }
-    let found = find_wire(board.size, held, p);
+    let found = find_wire(board.size, held, p, Mode::Plain);
     let last = held.items;
     tell(found, held.first[last])
 }

@@ -1,4 +1,5 @@
 -- Document 01, "Board, grid, clearance": legal wires, the one that is answered, its corners, runs, length and detour.
+-- Document 02, order 6: the straightest of the shortest.
 -- Assumes nothing.
 use Prim.Native.Nat.{ℕ, _+_, _-_, _≤_, _<_, min, max}
 use mathlib.Core.Path.{_≡_}
@@ -7,6 +8,8 @@ use mathlib.Core.Logic.{_⊎_}
 use mathlib.Core.List.{List, [], _∷_}
 use lib.ListN.{length}
 use lib.Dec.{ltb, eqb}
+use Rattle.paper.specs.declared.Mode.{Mode}
+use Rattle.paper.specs.declared.Mode.the-variants.{Plain, Fewest}
 use Rattle.paper.specs.Grid.{Node, Dir, rank, step, Grid, Free, Area}
 
 -- A wire is spelled as its unit steps from s; its length is their number. It is a walk over unblocked unit edges from s to t.
@@ -66,3 +69,21 @@ manhattan p q = gap (p .x) (q .x) + gap (p .y) (q .y)
 unfoldable pub detour : Node → Node → List Dir → ℕ
 detour t p [] = 0
 detour t p (d ∷ w) = cond (ltb (manhattan p t) (manhattan (step d p) t)) 1 0 + detour t (step d p) w
+
+-- ---- in each mode
+
+-- how many runs the walk from s has
+abbrev pub runsOf : Node → List Dir → ℕ
+runsOf s w = length (runs (corners s w))
+
+-- legal, no legal wire is shorter, none as short has fewer runs, and it is the first of those as short with as few
+pub record Straightest (G : Grid) (s t : Node) (w : List Dir) : Type 0 where
+  pub legal : Legal G s t w
+  pub shortest : (v : List Dir) → Legal G s t v → length w ≤ length v
+  pub straightest : (v : List Dir) → Legal G s t v → length v ≡ length w → runsOf s w ≤ runsOf s v
+  pub first : (v : List Dir) → Legal G s t v → length v ≡ length w → runsOf s v ≡ runsOf s w → First w v
+
+-- the wire that is answered
+abbrev pub AnsweredIn : Mode → Grid → Node → Node → List Dir → Type 0
+AnsweredIn Plain G s t w = Answered G s t w
+AnsweredIn Fewest G s t w = Straightest G s t w

@@ -37,6 +37,12 @@ pub struct Id {
     pub number: u16,
 }
 
+// Which of the shortest wires is answered: the first, or of those with the fewest runs the first.
+pub enum Mode {
+    Plain,
+    Fewest,
+}
+
 // A record as it was read.
 pub enum Record {
     Bounds(Size),

@@ -1,6 +1,6 @@
 -- The chart of marked ways is the grid of crossings, and a table of distances over it is what the theorems of `walks` ask of a search.
 -- Assumes nothing.
-use Prim.Native.Nat.{ℕ, suc, pred, _+_, _-_, _≤_, _<_}
+use Prim.Native.Nat.{ℕ, zero, suc, pred, _+_, _-_, _≤_, _<_}
 use native.Mathlib.Numerals.{add-one}
 use native.Mathlib.Omega.{arith}
 use native.Mathlib.Decide.{decLt}
@@ -8,19 +8,49 @@ use mathlib.Core.Path.{_≡_, refl, sym, ap, subst, _∙_}
 use mathlib.Core.Logic.{_↔_}
 use mathlib.Core.List.{List, _++_}
 use lib.ListN.{getD, replicate}
-use Rattle.paper.specs.Grid.{Node, Dir, E, N, W, S, step, Axis, level, upright, Grid, Edge, Free, Block, Blocked, edge, gridWith}
+use Rattle.paper.specs.Grid.{Node, Dir, E, N, W, S, rank, step, Axis, level, upright, Grid, Edge, Free, Block, Blocked, edge, gridWith}
 use Rattle.paper.specs.Wire.{gap}
+use Rattle.paper.specs.Laws.Steps.{axisOf}
 use Rattle.distances.specs.Lower.{none}
-use Rattle.distances.specs.Ways as ways
 use Rattle.distances.specs.Ways.{cell, Map, Way, east, west, north, south, farOf, Distances}
 use Rattle.distances.specs.Reached.{way-in}
 use Rattle.trace.specs.Trail as trail
-use Rattle.trace.specs.Trail.{chart, distance, marks}
+use Rattle.trace.specs.Trail.{chart, distance, marks, toll, turning, bendFrom, dues}
+use Rattle.bends.specs.Table.{Owed}
 use Rattle.walks.specs.Tracks.{Tracks, Rising}
 use Rattle.walks.specs.Crossings.{crossings, far}
-use Rattle.walks.specs.Trace as walk
-use Rattle.walks.specs.Trace.{Searched}
+use Rattle.walks.specs.Turns.{Came, fresh, by, fee, bend}
+use Rattle.walks.specs.Tables as tables
+use Rattle.walks.specs.Search as search
+use Rattle.walks.specs.Search.{Searched}
 use Rattle.walks.specs.Route.{tracks}
+
+-- how a wire has come, by the rank of its last direction; 4 where it begins
+abbrev pub cameOf : ℕ → Came
+cameOf zero = by level
+cameOf (suc zero) = by upright
+cameOf (suc (suc zero)) = by level
+cameOf (suc (suc (suc zero))) = by upright
+cameOf (suc (suc (suc (suc n)))) = fresh
+
+came-rank : (e : Dir) → by (axisOf e) ≡ cameOf (rank e)
+came-rank E = refl
+came-rank N = refl
+came-rank W = refl
+came-rank S = refl
+
+pub fee-same : (τ : ℕ) (a b : Axis) → fee τ a b ≡ turning τ a b
+fee-same τ level level = refl
+fee-same τ level upright = refl
+fee-same τ upright level = refl
+fee-same τ upright upright = refl
+
+bend-same : (τ came : ℕ) (b : Axis) → bend τ (cameOf came) b ≡ bendFrom τ came b
+bend-same τ zero b = fee-same τ level b
+bend-same τ (suc zero) b = fee-same τ upright b
+bend-same τ (suc (suc zero)) b = fee-same τ level b
+bend-same τ (suc (suc (suc zero))) b = fee-same τ upright b
+bend-same τ (suc (suc (suc (suc n)))) b = refl
 
 -- the tracks of a list
 abbrev pub tracksIn : List ℕ → ℕ → Tracks
@@ -84,18 +114,30 @@ module _ (w h : ℕ) (bs : List Block) (m : Map) (k : Marks w h bs m) where
     abbrev D : Node → ℕ
     D q = distance d q
 
-    leads-iff : (q : Node) (e : Dir) → trail.Leads m d q e ↔ walk.Leads G T D q e
+    pub leads-iff : (q : Node) (e : Dir) → trail.Leads m d q e ↔ search.Leads G T D q e
     leads-iff q e = (
       λ l. record { clear = free-iff q e .0 (l .clear); nearer = rw (far-same q e (l .clear)) at (l .nearer) },
       λ l. let f = free-iff q e .1 (l .clear) in record { clear = f; nearer = rw (far-same q e f) (l .nearer) },
     )
 
-    pub trail-of : (g q : Node) (v : List Dir) → walk.Trace G T D g q v → trail.Trail m d g q v
-    trail-of g q v walk.stop = trail.stop
-    trail-of g q v (walk.go {d = e} {rest = rest} l others t) =
-        let k = leads-iff q e .1 l in
-        subst (λ n. trail.Trail m d g q (replicate n e ++ rest)) (far-same q e (k .clear))
-        (trail.go k (λ f r z. others f r (leads-iff q f .0 z)) (trail-of g (step e q) rest t))
+    -- through a table of turns at any price
+    module _ (τ : ℕ) (c : List ℕ) where
+      fits-iff : (m′ : Came) (left came : ℕ) → m′ ≡ cameOf came → (q : Node) (e : Dir)
+          → trail.Fits m d (toll τ c) came left q e ↔ tables.Fits τ G T D (dues τ c) m′ left q e
+      fits-iff m′ left came em q e =
+          let b : bend τ m′ (axisOf e) ≡ bendFrom τ came (axisOf e) = ap (λ k. bend τ k (axisOf e)) em ∙ bend-same τ came (axisOf e) in (
+            λ f. let l = leads-iff q e .0 (f .leads) in record { clear = l .clear; nearer = l .nearer; turns = omega (arith, f .turns, b) },
+            λ f. record { leads = leads-iff q e .1 (record { clear = f .clear; nearer = f .nearer }); turns = omega (arith, f .turns, b) },
+          )
+
+      pub trail-of : (g : Node) (m′ : Came) (left came : ℕ) → m′ ≡ cameOf came → (q : Node) (v : List Dir)
+          → tables.Trace τ G T D (dues τ c) g m′ left q v → trail.Trail m d (toll τ c) g came left q v
+      trail-of g m′ left came em q v tables.stop = trail.stop
+      trail-of g m′ left came em q v (tables.go {d = e} {rest = rest} f others t) =
+          let k = fits-iff m′ left came em q e .1 f in
+          subst (λ n. trail.Trail m d (toll τ c) g came left q (replicate n e ++ rest)) (far-same q e (k .leads .clear))
+          (trail.go k (λ f r z. others f r (fits-iff m′ left came em q f .0 z))
+          (trail-of g (by (axisOf e)) (dues τ c (axisOf e) (step e q)) (rank e) (came-rank e) (step e q) rest t))
 
     -- ---- an open way is a step on the chart
 
@@ -174,6 +216,14 @@ module _ (w h : ℕ) (bs : List Block) (m : Map) (k : Marks w h bs m) where
 
       cut-of : (e : Dir) (q : Node) → Free (crossings T G) q e → D q ≤ farOf d s
       cut-of e q f = let k = way-in m _ _ _ _ _ (way-of q e (free-iff q e .1 f)) in t .cut (q .x) (q .y) (k .0) (k .1)
+
+      -- each crossing that is no further than s, but t, has a way that leads nearer
+      pub owed : getD d s 0 < none → Owed m d (record { x = a; y = b }) (getD d s 0)
+      owed r p on h ne =
+          let o = t .nearer (p .x) (p .y) (on .on-x) (on .on-y) (omega arith) (λ s. ne (λ k. record { x = s .0 k; y = s .1 k })) in
+          let s = step-of (p .x) (p .y) (o .0) (o .1) (o .2) (o .3) in
+          let there : D (step (s .dir) p) ≡ getD d (cell (o .0) (o .1)) 0 = ap D (s .there) in
+          (s .dir, record { clear = s .free; nearer = omega (arith, there, s .long, o .4) })
 
       module _ (ha : a < m .nx) (hb : b < m .ny) where
         -- what is further than s has one number, which no way makes smaller either

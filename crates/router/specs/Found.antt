@@ -8,6 +8,8 @@ use mathlib.Core.List.{List, [], _∷_}
 use lib.ListN.{getD}
 use Rattle.paper.specs.declared.Size.{Size}
 use Rattle.paper.specs.declared.Pins.{Pins}
+use Rattle.paper.specs.declared.Mode.{Mode}
+use Rattle.paper.specs.declared.Mode.the-variants.{Plain}
 use Rattle.paper.specs.Grid.{level, upright, gridWith, Block, All, Any}
 use Rattle.paper.specs.Wire.{manhattan}
 use Rattle.paper.specs.Answer.{source, target}
@@ -21,13 +23,13 @@ use Rattle.distances.specs.Lower.{none}
 use Rattle.distances.specs.Ways.{cell, Map, map, Distances}
 use Rattle.edges.specs.Marks.{boxAt, Marked}
 use Rattle.trace.specs.declared.At.{At}
-use Rattle.trace.specs.Trail.{crossing, distance, spot}
+use Rattle.trace.specs.Trail.{crossing, distance, spot, Charted}
 use Rattle.router.specs.declared.Routed.{Routed}
-use Rattle.router.specs.Route.{Answers}
-use Rattle.router.specs.Told.{Stands, Tracked, Ready, Tells}
+use Rattle.router.specs.Route.{AnswersIn}
+use Rattle.router.specs.Told.{Stands, Tracked, Ready, Lent, ToldIn}
 use Rattle.walks.specs.Rule.{BlockTracked}
 use Rattle.walks.specs.Route.{tracks}
-use Rattle.router.specs.Charts.{tracksIn, Marks}
+use Rattle.router.specs.Charts.{tracksIn, Marks, owed}
 use Rattle.router.specs.Joined.{got, answers}
 use Rattle.router.specs.Lines.{to-distances, all-tracked, all-marked}
 
@@ -73,26 +75,32 @@ module _ (z : Size) (x0 y0 x1 y1 c : List ℕ) (n : ℕ) (p : Pins) (x y : Track
     tracked : All (BlockTracked (tracks (tracksIn (x .at) (x .count)) (tracksIn (y .at) (y .count))) (gridWith (z .w) (z .h) bs)) bs
     tracked = all-tracked (z .w) (z .h) x0 y0 x1 y1 c n (p .sx ∷ p .tx ∷ []) (p .sy ∷ p .ty ∷ []) x y (k .on-x) (k .on-y) (k .range .0 .0) (k .range .1 .0)
 
+    charted : Charted m d
+    charted = record {
+      nx-few = k .on-x .few;
+      ny-few = k .on-y .few;
+      wide-x = to-distances (spans n x0 x1 c) (z .w) (p .sx ∷ p .tx ∷ []) x (k .on-x) (k .range .0 .0) (k .range .0 .1);
+      wide-y = to-distances (spans n y0 y1 c) (z .h) (p .sy ∷ p .ty ∷ []) y (k .on-y) (k .range .1 .0) (k .range .1 .1);
+      top = dist .top;
+    }
+
     -- a distance is at least the pins' own
     far : distance d (crossing s) < none → manhattan (source p) (target p) ≤ distance d (crossing s)
+    unfolding Lent
     far h =
-        let g = got (z .w) (z .h) bs m marked tracked d s t dist (sx .0) (sy .0) (tx .0) (ty .0) (source p) (target p) start end h in
+        let g = got (z .w) (z .h) bs m marked tracked d s t dist charted (sx .0) (sy .0) (tx .0) (ty .0) (source p) (target p) start end Plain [] 0 tt
+        (record { low = λ a. omega arith; one = level; is = refl }) h in
         omega (arith, g .long, length-detour (gridWith (z .w) (z .h) bs) (source p) (target p) (g .word) (g .answered .legal))
 
     pub ready : Ready m d s t p
     ready = record {
-      charted = record {
-        nx-few = k .on-x .few;
-        ny-few = k .on-y .few;
-        wide-x = to-distances (spans n x0 x1 c) (z .w) (p .sx ∷ p .tx ∷ []) x (k .on-x) (k .range .0 .0) (k .range .0 .1);
-        wide-y = to-distances (spans n y0 y1 c) (z .h) (p .sy ∷ p .ty ∷ []) y (k .on-y) (k .range .1 .0) (k .range .1 .1);
-        top = dist .top;
-      };
+      charted = charted;
       s-x = sx .0;
       s-y = sy .0;
       home = dist .target;
       far = far;
+      owed = λ r. owed (z .w) (z .h) bs m marked d (t .i) (t .j) (cell (s .i) (s .j)) dist r;
     }
 
-    pub answered : (r : Routed) → Tells m d s t p r → Answers (gridWith (z .w) (z .h) bs) (source p) (target p) r
-    answered r tell = answers (z .w) (z .h) bs m marked tracked d s t dist (sx .0) (sy .0) (tx .0) (ty .0) p start end r tell
+    pub answered : (r : Routed) (o : Mode) → ToldIn o m d s t p r → AnswersIn o (gridWith (z .w) (z .h) bs) (source p) (target p) r
+    answered r o tell = answers (z .w) (z .h) bs m marked tracked d s t dist charted (sx .0) (sy .0) (tx .0) (ty .0) p start end r o tell

@@ -3,7 +3,9 @@ pub mod One
 pub mod Cells
 pub mod Told
 pub mod Telling
+pub mod Modes
 pub mod Charts
+pub mod Bent
 pub mod Joined
 pub mod Pairs
 pub mod Lines

@@ -7,9 +7,11 @@ use mathlib.Core.List.{List, [], map}
 use lib.ListN.{length}
 use Rattle.paper.specs.declared.Size.{Size}
 use Rattle.paper.specs.declared.Pins.{Pins}
+use Rattle.paper.specs.declared.Mode.{Mode}
+use Rattle.paper.specs.declared.Mode.the-variants.{Plain}
 use Rattle.paper.specs.Limits.{most-runs, most-corners}
 use Rattle.paper.specs.Grid.{Node, Dir, Grid, Block, Blocked, node}
-use Rattle.paper.specs.Wire.{Legal, Answered, corners, runs, detour}
+use Rattle.paper.specs.Wire.{Legal, AnsweredIn, corners, runsOf, detour}
 use Rattle.paper.specs.Layout.{InRange, OnBoard}
 use Rattle.paper.specs.Padding.{filled}
 use Rattle.paper.specs.Answer.{source, target}
@@ -56,41 +58,44 @@ pub record Valued (o : Route) (xs ys : List ℕ) (n d : ℕ) (ps : List Node) : 
 -- ---- what is answered
 
 -- the word that is answered, and how many runs it has
-abbrev pub Few : Grid → Node → Node → List Dir → Type 0
-Few G s t w = Answered G s t w × (length (runs (corners s w)) ≤ most-runs)
+abbrev pub Few : Mode → Grid → Node → Node → List Dir → Type 0
+Few m G s t w = AnsweredIn m G s t w × (runsOf s w ≤ most-runs)
 
-abbrev pub Many : Grid → Node → Node → List Dir → Type 0
-Many G s t w = Answered G s t w × (most-runs < length (runs (corners s w)))
+abbrev pub Many : Mode → Grid → Node → Node → List Dir → Type 0
+Many m G s t w = AnsweredIn m G s t w × (most-runs < runsOf s w)
 
 -- each number exactly where it applies, and the values that go with it
-pub record Coded (G : Grid) (s t : Node) (o : Route) (xs ys : List ℕ) : Type 0 where
-  pub few : (codeOf o ≡ 0) ↔ ((w : List Dir) × Few G s t w)
+pub record Coded (m : Mode) (G : Grid) (s t : Node) (o : Route) (xs ys : List ℕ) : Type 0 where
+  pub few : (codeOf o ≡ 0) ↔ ((w : List Dir) × Few m G s t w)
   pub none : (codeOf o ≡ 12) ↔ ((w : List Dir) → ¬ (Legal G s t w))
-  pub many : (codeOf o ≡ 13) ↔ ((w : List Dir) × Many G s t w)
-  pub values : (w : List Dir) → Few G s t w → Valued o xs ys (length w) (detour t s w) (corners s w)
+  pub many : (codeOf o ≡ 13) ↔ ((w : List Dir) × Many m G s t w)
+  pub values : (w : List Dir) → Few m G s t w → Valued o xs ys (length w) (detour t s w) (corners s w)
   pub silent : ¬ (codeOf o ≡ 0) → Valued o xs ys 0 0 []
-  pub shortest : (w : List Dir) → Answered G s t w → shortestOf o ≡ length w
+  pub shortest : (w : List Dir) → AnsweredIn m G s t w → shortestOf o ≡ length w
+
+abbrev pub AnswersIn : Mode → Grid → Node → Node → Routed → Type 0
+AnswersIn m G s t r = Coded m G s t (r .route) (r .xs) (r .ys)
 
 abbrev pub Answers : Grid → Node → Node → Routed → Type 0
-Answers G s t r = Coded G s t (r .route) (r .xs) (r .ys)
+Answers G s t r = AnswersIn Plain G s t r
 
 -- ---- the same by cases, for the proofs
 
-unfoldable pub Found : Grid → Node → Node → Route → Type 0
-Found G s t (Wire n d k) = (w : List Dir) × Few G s t w × (n ≡ length w) × (d ≡ detour t s w) × (k ≡ length (corners s w))
-Found G s t NoWire = (w : List Dir) → ¬ (Legal G s t w)
-Found G s t (TooManyRuns n) = (w : List Dir) × Many G s t w × (n ≡ length w)
+unfoldable pub Found : Mode → Grid → Node → Node → Route → Type 0
+Found m G s t (Wire n d k) = (w : List Dir) × Few m G s t w × (n ≡ length w) × (d ≡ detour t s w) × (k ≡ length (corners s w))
+Found m G s t NoWire = (w : List Dir) → ¬ (Legal G s t w)
+Found m G s t (TooManyRuns n) = (w : List Dir) × Many m G s t w × (n ≡ length w)
 
 -- the corners that are written: the wire's, or none
-unfoldable pub Written : Grid → Node → Node → Route → List Node → Type 0
-Written G s t (Wire n d k) ps = (w : List Dir) × Answered G s t w × (ps ≡ corners s w)
-Written G s t NoWire ps = ps ≡ []
-Written G s t (TooManyRuns n) ps = ps ≡ []
+unfoldable pub Written : Mode → Grid → Node → Node → Route → List Node → Type 0
+Written m G s t (Wire n d k) ps = (w : List Dir) × AnsweredIn m G s t w × (ps ≡ corners s w)
+Written m G s t NoWire ps = ps ≡ []
+Written m G s t (TooManyRuns n) ps = ps ≡ []
 
-pub record Routes (G : Grid) (s t : Node) (o : Route) (xs ys : List ℕ) : Type 0 where
-  pub found : Found G s t o
+pub record Routes (m : Mode) (G : Grid) (s t : Node) (o : Route) (xs ys : List ℕ) : Type 0 where
+  pub found : Found m G s t o
   pub turned : List Node
-  pub written : Written G s t o turned
+  pub written : Written m G s t o turned
   pub xs-are : xs ≡ filled 0 most-corners (map (λ p. p .x) turned)
   pub ys-are : ys ≡ filled 0 most-corners (map (λ p. p .y) turned)
 

@@ -6,6 +6,8 @@ use mathlib.Core.List.{List, [], _∷_, map}
 use lib.ListN.{length, getD}
 use Rattle.paper.specs.declared.Size.{Size}
 use Rattle.paper.specs.declared.Pins.{Pins}
+use Rattle.paper.specs.declared.Mode.{Mode}
+use Rattle.paper.specs.declared.Mode.the-variants.{Plain, Fewest}
 use Rattle.paper.specs.Layout.{InRange, OnBoard}
 use Rattle.tracks.specs.declared.Tracks.{Tracks}
 use Rattle.tracks.specs.Tracks.{spans, AreTracks}
@@ -17,7 +19,10 @@ use Rattle.paper.specs.Answer.{source, target}
 use Rattle.distances.specs.Lower.{none}
 use Rattle.distances.specs.Ways.{Map}
 use Rattle.trace.specs.declared.At.{At}
-use Rattle.trace.specs.Trail.{crossing, distance, spot, Trail, Charted}
+use Rattle.trace.specs.Trail.{crossing, distance, spot, Toll, toll, dues, Trail, Charted}
+use Rattle.bends.specs.Table.{Owed, Bends}
+use Rattle.walks.specs.Onward.{Begins}
+use Rattle.walks.specs.Modes.{priceOf}
 use Rattle.router.specs.declared.Routed.{Routed}
 use Rattle.router.specs.declared.Route.{Route}
 use Rattle.router.specs.declared.Route.the-variants.{Wire, NoWire, TooManyRuns}
@@ -43,13 +48,40 @@ pub record Ready (m : Map) (d : List ℕ) (s t : At) (p : Pins) : Type 0 where
   pub s-y : s .j < m .ny
   pub home : distance d (crossing t) ≡ 0
   pub far : distance d (crossing s) < none → manhattan (source p) (target p) ≤ distance d (crossing s)
+  pub owed : distance d (crossing s) < none → Owed m d (crossing t) (distance d (crossing s))
 
-pub record Tells (m : Map) (d : List ℕ) (s t : At) (p : Pins) (r : Routed) : Type 0 where
+pub record Tells (m : Map) (d : List ℕ) (o : Toll) (left : ℕ) (s t : At) (p : Pins) (r : Routed) : Type 0 where
   pub none-told : distance d (crossing s) ≡ none → r ≡ silence NoWire
-  pub few-told : (v : List Dir) → Trail m d (crossing t) (crossing s) v → distance d (crossing s) < none → length (corners (spot m (crossing s)) v) ≤ most-corners
+  pub few-told : (v : List Dir) → Trail m d o (crossing t) 4 left (crossing s) v → distance d (crossing s) < none → length (corners (spot m (crossing s)) v) ≤ most-corners
       → r ≡ telling (distance d (crossing s)) p (corners (spot m (crossing s)) v)
-  pub many-told : (v : List Dir) → Trail m d (crossing t) (crossing s) v → distance d (crossing s) < none → most-corners < length (corners (spot m (crossing s)) v)
+  pub many-told : (v : List Dir) → Trail m d o (crossing t) 4 left (crossing s) v → distance d (crossing s) < none → most-corners < length (corners (spot m (crossing s)) v)
       → r ≡ silence (TooManyRuns (distance d (crossing s)))
+
+-- ---- in each mode
+
+-- the table that is lent to the trace: any, or that of the turns
+unfoldable pub Lent : Mode → Map → List ℕ → Node → Node → List ℕ → Type 0
+Lent Plain m d s t c = Unit {0}
+Lent Fewest m d s t c = Bends m d s t c
+
+-- told through such a table
+pub record Turned (o : Mode) (m : Map) (d : List ℕ) (s t : At) (p : Pins) (r : Routed) : Type 0 where
+  pub table : List ℕ
+  pub left : ℕ
+  pub lent : Lent o m d (crossing s) (crossing t) table
+  pub begins : Begins (dues (priceOf o) table) (crossing s) left
+  pub tells : Tells m d (toll (priceOf o) table) left s t p r
+
+pub record ToldIn (o : Mode) (m : Map) (d : List ℕ) (s t : At) (p : Pins) (r : Routed) : Type 0 where
+  pub none-told : distance d (crossing s) ≡ none → r ≡ silence NoWire
+  pub turned : distance d (crossing s) < none → Turned o m d s t p r
+
+-- turns cost nothing, and no table is read
+abbrev pub free : Toll
+free = toll 0 (0 ∷ [])
+
+abbrev pub Fewer : Map → List ℕ → At → At → Pins → Routed → Type 0
+Fewer m d s t p r = ToldIn Fewest m d s t p r
 
 -- ---- on the tracks
 

@@ -1,18 +1,22 @@
 // From blocks and two pins to the answered wire.
+use bends::bends;
+use bends::lesser;
 use blocks::Blocks;
 use distances::distances;
 use edges::blank;
 use edges::edges;
+use paper::Mode;
 use paper::Pins;
 use paper::Size;
 use trace::At;
 use trace::left_at;
 use trace::trace;
+use trace::turns_at;
 use tracks::Tracks;
 use tracks::of_axis;
 ghost use mathlib.Core.Path.{_≡_};
 ghost use Prim.Native.Nat.{_-_, _<_, _≤_};
-ghost use lib.ListN.{length, getD};
+ghost use lib.ListN.{getD};
 ghost use Rattle.paper.specs.Grid.{gridWith};
 ghost use Rattle.paper.specs.Wire.{gap, manhattan};
 ghost use Rattle.paper.specs.Answer.{source, target};
@@ -20,8 +24,9 @@ ghost use Rattle.paper.specs.Laws.Joins.{joined};
 ghost use Rattle.blocks.specs.Flat.{flat, listed, Fits};
 ghost use Rattle.edges.specs.Marks.{boxAt};
 ghost use Rattle.distances.specs.Ways.{map};
-ghost use Rattle.router.specs.Route.{Answers, Asked};
-ghost use Rattle.router.specs.Told.{Tells, Ready, Stands, Tracked, detourFor, silence};
+ghost use Rattle.trace.specs.Trail.{toll};
+ghost use Rattle.router.specs.Route.{AnswersIn, Asked};
+ghost use Rattle.router.specs.Told.{Tells, Fewer, ToldIn, free, Ready, Stands, Tracked, detourFor, silence};
 
 // The wire's length, its detour and how many corners it has; or why there is none to tell, and how long one of too many runs is.
 pub enum Route {
@@ -79,9 +84,13 @@ fn tell(
     s: At,
     t: At,
     p: Pins,
+    c: &[u32],
+    price: u32,
+    left: u32,
 ) -> Routed
-    requires { ⌜ Ready (map (now xs) nx (now ys) ny (now flat) (now tall)) (now d) s t p ⌝ }
-    ensures { λ r. ⌜ Tells (map (now (xs .entry)) nx (now (ys .entry)) ny (now (flat .entry)) (now (tall .entry))) (now (d .entry)) s t p r ⌝ }
+    requires { ⌜ Ready (map (now xs) nx (now ys) ny (now flat) (now tall)) (now d) s t p × (price ≤ 1) ⌝ }
+    ensures { λ r. ⌜ Tells (map (now (xs .entry)) nx (now (ys .entry)) ny (now (flat .entry)) (now (tall .entry))) (now (d .entry))
+        (toll price (now (c .entry))) left s t p r ⌝ }
 {
     let long = left_at(d, s);
     if long == 1000000000 {
@@ -101,6 +110,9 @@ fn tell(
         t,
         4,
         long,
+        c,
+        price,
+        left,
         &mut px,
         &mut py,
         0,
@@ -112,6 +124,74 @@ fn tell(
         route: Route::Wire(long, detour(long, p), count),
         xs: px,
         ys: py,
+    }
+}
+
+// The same where turns cost nothing.
+fn plain(
+    d: &[u32; 9216],
+    flat: &[u8; 9216],
+    xs: &[u16; 96],
+    nx: usize,
+    tall: &[u8; 9216],
+    ys: &[u16; 96],
+    ny: usize,
+    s: At,
+    t: At,
+    p: Pins,
+) -> Routed
+    requires { ⌜ Ready (map (now xs) nx (now ys) ny (now flat) (now tall)) (now d) s t p ⌝ }
+    ensures { λ r. ⌜ Tells (map (now (xs .entry)) nx (now (ys .entry)) ny (now (flat .entry)) (now (tall .entry))) (now (d .entry)) free 0 s t p r ⌝ }
+{
+    let none = [0u32; 1];
+    tell(d, flat, xs, nx, tall, ys, ny, s, t, p, &none, 0, 0)
+}
+
+// The same where a turn costs one: through the table of turns.
+fn fewest(
+    d: &[u32; 9216],
+    flat: &[u8; 9216],
+    xs: &[u16; 96],
+    nx: usize,
+    tall: &[u8; 9216],
+    ys: &[u16; 96],
+    ny: usize,
+    s: At,
+    t: At,
+    p: Pins,
+) -> Routed
+    requires { ⌜ Ready (map (now xs) nx (now ys) ny (now flat) (now tall)) (now d) s t p ⌝ }
+    ensures { λ r. ⌜ Fewer (map (now (xs .entry)) nx (now (ys .entry)) ny (now (flat .entry)) (now (tall .entry))) (now (d .entry)) s t p r ⌝ }
+{
+    if left_at(d, s) == 1000000000 {
+        return silent(Route::NoWire);
+    }
+    let mut c = [0u32; 18432];
+    bends(d, flat, xs, nx, tall, ys, ny, s, t, &mut c);
+    let left = lesser(turns_at(&c, s, 0), turns_at(&c, s, 1));
+    tell(d, flat, xs, nx, tall, ys, ny, s, t, p, &c, 1, left)
+}
+
+// By the mode.
+fn by_mode(
+    d: &[u32; 9216],
+    flat: &[u8; 9216],
+    xs: &[u16; 96],
+    nx: usize,
+    tall: &[u8; 9216],
+    ys: &[u16; 96],
+    ny: usize,
+    s: At,
+    t: At,
+    p: Pins,
+    mode: Mode,
+) -> Routed
+    requires { ⌜ Ready (map (now xs) nx (now ys) ny (now flat) (now tall)) (now d) s t p ⌝ }
+    ensures { λ r. ⌜ ToldIn mode (map (now (xs .entry)) nx (now (ys .entry)) ny (now (flat .entry)) (now (tall .entry))) (now (d .entry)) s t p r ⌝ }
+{
+    match mode {
+        Mode::Plain => plain(d, flat, xs, nx, tall, ys, ny, s, t, p),
+        Mode::Fewest => fewest(d, flat, xs, nx, tall, ys, ny, s, t, p),
     }
 }
 
@@ -142,9 +222,10 @@ fn on_tracks(
     c: &[u16; 46],
     n: usize,
     p: Pins,
+    mode: Mode,
 ) -> Routed
     requires { ⌜ Tracked size (now x0) (now y0) (now x1) (now y1) (now c) n p x y ⌝ }
-    ensures { λ r. ⌜ Answers (gridWith (size .w) (size .h) (joined (listed (boxAt (now (x0 .entry)) (now (y0 .entry)) (now (x1 .entry))
+    ensures { λ r. ⌜ AnswersIn mode (gridWith (size .w) (size .h) (joined (listed (boxAt (now (x0 .entry)) (now (y0 .entry)) (now (x1 .entry))
         (now (y1 .entry)) (now (c .entry))) 0 n))) (source p) (target p) r ⌝ }
 {
     let xs = x.at;
@@ -172,7 +253,7 @@ fn on_tracks(
     let ti = index_of(&xs, nx, p.tx);
     let tj = index_of(&ys, ny, p.ty);
     let d = distances(&level, &xs, nx, &upright, &ys, ny, ti, tj, si, sj);
-    tell(
+    by_mode(
         &d,
         &level,
         &xs,
@@ -183,13 +264,14 @@ fn on_tracks(
         At { i: si, j: sj },
         At { i: ti, j: tj },
         p,
+        mode,
     )
 }
 
-// The answered wire between two pins, or why there is none to tell.
-pub fn find_wire(size: Size, held: Blocks, p: Pins) -> Routed
+// The answered wire between two pins in a mode, or why there is none to tell.
+pub fn find_wire(size: Size, held: Blocks, p: Pins, mode: Mode) -> Routed
     requires { ⌜ Fits held × Asked size (flat held) p ⌝ }
-    ensures { λ r. ⌜ Answers (gridWith (size .w) (size .h) (joined (flat held))) (source p) (target p) r ⌝ }
+    ensures { λ r. ⌜ AnswersIn mode (gridWith (size .w) (size .h) (joined (flat held))) (source p) (target p) r ⌝ }
 {
     let last = held.items;
     let n = held.first[last];
@@ -202,5 +284,5 @@ pub fn find_wire(size: Size, held: Blocks, p: Pins) -> Routed
     let py = [p.sy, p.ty];
     let x = of_axis(&x0, &x1, &c, n, size.w, &px);
     let y = of_axis(&y0, &y1, &c, n, size.h, &py);
-    on_tracks(size, x, y, &x0, &y0, &x1, &y1, &c, n, p)
+    on_tracks(size, x, y, &x0, &y0, &x1, &y1, &c, n, p, mode)
 }

@@ -1,18 +1,19 @@
 -- Which directions lead nearer: one law for an axis, and how the four directions are its cases.
 -- Assumes nothing.
-use Prim.Native.Nat.{ℕ, zero, suc, pred, _+_, _-_, _*_, _<_}
+use Prim.Native.Nat.{ℕ, zero, suc, pred, _+_, _-_, _*_, _≤_, _<_}
 use native.Mathlib.Omega.{arith}
 use mathlib.Core.Path.{_≡_, refl, sym, ap, subst, _∙_}
 use mathlib.Core.Bool.{Bool, true, false}
 use mathlib.Core.Logic.{_↔_}
 use mathlib.Core.List.{List}
 use lib.ListN.{getD}
-use Rattle.paper.specs.Grid.{Node, E, N, W, S, step, Edge, Free}
+use Rattle.paper.specs.Grid.{Node, Dir, E, N, W, S, step, Axis, level, upright, Edge, Free}
+use Rattle.paper.specs.Laws.Steps.{axisOf}
 use Rattle.paper.specs.Laws.Says.{Says, says-as, says-never}
 use Rattle.distances.specs.Sweep.{widthOf}
 use Rattle.distances.specs.Ways.{Map}
 use Rattle.trace.specs.declared.At.{At}
-use Rattle.trace.specs.Trail.{crossing, dirOf, far, Leads, Nearer, Along, FirstWay, OnAxis, Charted, Room}
+use Rattle.trace.specs.Trail.{crossing, dirOf, chart, far, Leads, Nearer, Along, Toll, turning, bendFrom, dues, turnsIn, Fits, FirstWay, OnAxis, Charted, Room}
 
 -- ---- one axis
 
@@ -124,10 +125,31 @@ module _ (m : Map) (d : List ℕ) (c : Charted m d) (q : At) (hi : q .i < m .nx)
       back : Leads m d (crossing q) S → Along d (m .tall) (m .ys) (m .ny) (q .j) (q .i + q .j * 96) 96 false
       back l = let h : 0 < q .j = l .clear .0 in (h, record { free = rw (place h) (l .clear .1 .2); less = rw (place h, prev h) (l .nearer) })
 
+-- ---- where they go
+
+module _ (m : Map) (d : List ℕ) where
+  pub lands : (q : Node) (e : Dir) → q .x < m .nx → q .y < m .ny → Leads m d q e → (step e q .x < m .nx) × (step e q .y < m .ny)
+  lands q e p r l = go e (l .clear)
+    where
+      go : (e : Dir) → Free (chart m) q e → (step e q .x < m .nx) × (step e q .y < m .ny)
+      go E f = unfold Free Edge step in (omega (arith, f .0), r)
+      go N f = unfold Free Edge step in (p, omega (arith, f .1))
+      go W f = unfold Free Edge step in (let z : pred (q .x) < m .nx = omega arith in z, r)
+      go S f = unfold Free Edge step in (p, let z : pred (q .y) < m .ny = omega arith in z)
+
+  pub lead-room : Charted m d → (q : At) (k : ℕ) → Leads m d (crossing q) (dirOf k) → Room q k
+  lead-room c q k l = go k (l .clear)
+    where
+      go : (k : ℕ) → Free (chart m) (crossing q) (dirOf k) → Room q k
+      go zero f = unfold Free Edge Room in omega (arith, f .0, c .nx-few)
+      go (suc zero) f = unfold Free Edge Room in omega (arith, f .1, c .ny-few)
+      go (suc (suc zero)) f = unfold Free Room in f .0
+      go (suc (suc (suc n))) f = unfold Free Room in f .0
+
 -- ---- the first of them
 
-pub first-start : (m : Map) (d : List ℕ) (q : Node) → (j : ℕ) → j < 0 → ¬ (Leads m d q (dirOf j))
-first-start m d q j h = absurd (omega arith)
+pub first-start : (m : Map) (d : List ℕ) (o : Toll) (came left : ℕ) (q : Node) → (j : ℕ) → j < 0 → ¬ (Fits m d o came left q (dirOf j))
+first-start m d o came left q j h = absurd (omega arith)
 
 -- a number that is none of 0, 1 and 2 stands for S
 pub dir-rest : (k : ℕ) → ¬ (k ≡ 0) → ¬ (k ≡ 1) → ¬ (k ≡ 2) → dirOf k ≡ S
@@ -143,13 +165,50 @@ room-rest q (suc zero) a b c r = absurd (b refl)
 room-rest q (suc (suc zero)) a b c r = absurd (c refl)
 room-rest q (suc (suc (suc k))) a b c r = r
 
-pub first-found : (m : Map) (d : List ℕ) (q : Node) (k : ℕ) → k < 4 → Leads m d q (dirOf k) → ((j : ℕ) → j < k → ¬ (Leads m d q (dirOf j))) → FirstWay m d q k
-unfolding FirstWay
-first-found m d q k h l n = (omega arith, λ z. l, n)
+module _ (m : Map) (d : List ℕ) (o : Toll) (came left : ℕ) (q : Node) (k : ℕ) where
+  pub first-found : k < 4 → Fits m d o came left q (dirOf k) → ((j : ℕ) → j < k → ¬ (Fits m d o came left q (dirOf j))) → FirstWay m d o came left q k
+  unfolding FirstWay
+  first-found h l n = (omega arith, λ z. l, n)
 
-pub first-none : (m : Map) (d : List ℕ) (q : Node) (k : ℕ) → k ≡ 4 → ((j : ℕ) → j < k → ¬ (Leads m d q (dirOf j))) → FirstWay m d q k
-unfolding FirstWay
-first-none m d q k e n = (omega arith, λ z. absurd (omega arith), n)
+  pub first-none : k ≡ 4 → ((j : ℕ) → j < k → ¬ (Fits m d o came left q (dirOf j))) → FirstWay m d o came left q k
+  unfolding FirstWay
+  first-none e n = (omega arith, λ z. absurd (omega arith), n)
+
+-- ---- what the turn costs
+
+module _ (c : List ℕ) (a : Axis) (q : Node) where
+  pub dues-none : (p : ℕ) → p ≡ 0 → dues p c a q ≡ 0
+  dues-none zero e = refl
+  dues-none (suc p) e = absurd (omega arith)
+
+  pub dues-some : (p : ℕ) → ¬ (p ≡ 0) → dues p c a q ≡ turnsIn c a q
+  dues-some zero n = absurd (n refl)
+  dues-some (suc p) n = refl
+
+pub dir-axis : (k : ℕ) (b : Axis) (p : ℕ) → k < 4 → bendFrom p k b ≡ turning p (axisOf (dirOf k)) b
+dir-axis zero b p h = refl
+dir-axis (suc zero) b p h = refl
+dir-axis (suc (suc zero)) b p h = refl
+dir-axis (suc (suc (suc zero))) b p h = refl
+dir-axis (suc (suc (suc (suc k)))) b p h = absurd (omega arith)
+
+pub bend-start : (k : ℕ) (b : Axis) (p : ℕ) → 4 ≤ k → bendFrom p k b ≡ 0
+bend-start zero b p h = absurd (omega arith)
+bend-start (suc zero) b p h = absurd (omega arith)
+bend-start (suc (suc zero)) b p h = absurd (omega arith)
+bend-start (suc (suc (suc zero))) b p h = absurd (omega arith)
+bend-start (suc (suc (suc (suc k)))) b p h = refl
+
+pub bend-most : (k : ℕ) (b : Axis) (p : ℕ) → bendFrom p k b ≤ p
+bend-most zero level p = omega arith
+bend-most zero upright p = omega arith
+bend-most (suc zero) level p = omega arith
+bend-most (suc zero) upright p = omega arith
+bend-most (suc (suc zero)) level p = omega arith
+bend-most (suc (suc zero)) upright p = omega arith
+bend-most (suc (suc (suc zero))) level p = omega arith
+bend-most (suc (suc (suc zero))) upright p = omega arith
+bend-most (suc (suc (suc (suc k)))) b p = omega arith
 
 -- ---- crossings that are one
 

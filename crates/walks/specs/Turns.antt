@@ -38,7 +38,7 @@ pub record Best (τ : ℕ) (G : Grid) (s t : Node) (w : List Dir) : Type 0 where
   pub straightest : (v : List Dir) → Legal G s t v → length v ≡ length w → bends τ fresh w ≤ bends τ fresh v
   pub first : (v : List Dir) → Legal G s t v → length v ≡ length w → bends τ fresh v ≡ bends τ fresh w → First w v
 
-fee-most : (τ : ℕ) (a b : Axis) → fee τ a b ≤ τ
+pub fee-most : (τ : ℕ) (a b : Axis) → fee τ a b ≤ τ
 fee-most τ level level = omega arith
 fee-most τ level upright = omega arith
 fee-most τ upright level = omega arith

@@ -4,6 +4,7 @@ use Prim.Native.Nat.{ℕ, _-_, _≤_}
 use native.Mathlib.Omega.{arith}
 use mathlib.Core.Path.{_≡_, refl}
 use mathlib.Core.List.{List}
+use Rattle.paper.specs.declared.Mode.the-variants.{Plain}
 use Rattle.paper.specs.Grid.{Node, Dir, Grid}
 use Rattle.paper.specs.Wire.{Legal, ToGo}
 use Rattle.paper.specs.Laws.Told.{answered-to-go}
@@ -14,7 +15,7 @@ use Rattle.router.specs.Route.{shortestOf, Coded, Answers}
 use Rattle.drawn.specs.Drawing.{Reached, Over}
 
 module _ (G : Grid) (s t : Node) where
-  shortest-to-go : (o : Route) (xs ys : List ℕ) → Coded G s t o xs ys → (v : List Dir) → Legal G s t v → ToGo G t s (shortestOf o)
+  shortest-to-go : (o : Route) (xs ys : List ℕ) → Coded Plain G s t o xs ys → (v : List Dir) → Legal G s t v → ToGo G t s (shortestOf o)
   shortest-to-go (Wire n d k) xs ys c v l = let w = c .few .0 refl in rw (c .shortest (w .0) (w .1 .0)) (answered-to-go G s t (w .0) (w .1 .0))
   shortest-to-go NoWire xs ys c v l = absurd (c .none .0 refl v l)
   shortest-to-go (TooManyRuns n) xs ys c v l = let w = c .many .0 refl in rw (c .shortest (w .0) (w .1 .0)) (answered-to-go G s t (w .0) (w .1 .0))

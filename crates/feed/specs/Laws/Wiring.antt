@@ -10,6 +10,7 @@ use lib.ListN.{length}
 use Rattle.paper.specs.declared.Pins.{Pins}
 use Rattle.paper.specs.declared.Size.{Size}
 use Rattle.paper.specs.declared.Verdict.{Verdict}
+use Rattle.paper.specs.declared.Mode.the-variants.{Plain}
 use Rattle.paper.specs.Limits.{most-corners}
 use Rattle.paper.specs.Grid.{Node, Dir, Grid, Any, Pairs, Blocked, node, step, rank, gridWith}
 use Rattle.paper.specs.Wire.{Legal, Answered, corners, turns, runs}
@@ -210,8 +211,8 @@ module _ (l : Layout) (p : Pins) (g : Clear (startChecks l p)) where
   after k h = gives-then (startChecks l p) _ (plain k) g h
 
   -- the wire that is told is the one that is written
-  spelled : (n d k b : ℕ) (ps : List Node) (xs ys : List ℕ) → Told (gridOf (l .size) (l .items)) (source p) (target p) (Wire n d k)
-      → Written (gridOf (l .size) (l .items)) (source p) (target p) (Wire n d k) ps
+  spelled : (n d k b : ℕ) (ps : List Node) (xs ys : List ℕ) → Told Plain (gridOf (l .size) (l .items)) (source p) (target p) (Wire n d k)
+      → Written Plain (gridOf (l .size) (l .items)) (source p) (target p) (Wire n d k) ps
       → xs ≡ filled 0 most-corners (map (λ q. q .x) ps) → ys ≡ filled 0 most-corners (map (λ q. q .y) ps)
       → TheWire l p (Spelled p (wiredBy (Wire n d k) xs ys b))
   unfolding Told Written
@@ -222,7 +223,7 @@ module _ (l : Layout) (p : Pins) (g : Clear (startChecks l p)) where
       (v, a, record { length-is = f .2; detour-is = f .3; corners-are = f .4; xs-are = rw e at x; ys-are = rw e at y })
 
   pub wires-by : (r : Route) (ps : List Node) (xs ys : List ℕ) (b : ℕ) → b ≡ blockCount (l .items)
-      → Told (gridOf (l .size) (l .items)) (source p) (target p) r → Written (gridOf (l .size) (l .items)) (source p) (target p) r ps
+      → Told Plain (gridOf (l .size) (l .items)) (source p) (target p) r → Written Plain (gridOf (l .size) (l .items)) (source p) (target p) r ps
       → xs ≡ filled 0 most-corners (map (λ q. q .x) ps) → ys ≡ filled 0 most-corners (map (λ q. q .y) ps)
       → Wires l p (wiredBy r xs ys b)
   unfolding Told Gives
@@ -245,7 +246,7 @@ pub wires-told : (b : Blocks) (l : Layout) (p : Pins) (r : Routed) (n : ℕ) →
     → Answers (gridWith (l .size .w) (l .size .h) (joined (flat b))) (source p) (target p) r → n ≡ blockCount (l .items) → Wires l p (wiredOf r n)
 wires-told b l p r n held range g a e =
     let c : Answers (gridWith (l .size .w) (l .size .h) (joined (blocksTo (l .size .clearance) wires (l .items)))) (source p) (target p) r = rw (flat-held held) at a in
-    let h = routes-of (gridOf (l .size) (l .items)) (source p) (target p) (r .route) (r .xs) (r .ys) (answers-cells (l .size) (l .items) (source p) (target p) r (range .2 .0) c) in
+    let h = routes-of Plain (gridOf (l .size) (l .items)) (source p) (target p) (r .route) (r .xs) (r .ys) (answers-cells Plain (l .size) (l .items) (source p) (target p) r (range .2 .0) c) in
     wires-by l p g (r .route) (h .turned) (r .xs) (r .ys) n e (h .found) (h .written) (h .xs-are) (h .ys-are)
 
 -- ---- how many corners

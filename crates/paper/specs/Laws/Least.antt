@@ -1,4 +1,4 @@
--- There is one answered wire; and a potential, a lower bound of the steps still to go, shows a wire to be it.
+-- There is one answered wire in each mode; and a potential, a lower bound of the steps still to go, shows a wire to be it.
 -- Assumes nothing.
 use Prim.Native.Nat.{ℕ, zero, suc, _≤_, _<_}
 use native.Mathlib.Decide.{decLt}
@@ -8,8 +8,10 @@ use mathlib.Core.Path.{_≡_, refl, sym, ap, ap₂, subst, _∙_}
 use mathlib.Core.Logic.{inl, inr, by-cases}
 use mathlib.Core.List.{List, [], _∷_}
 use lib.ListN.{length}
+use Rattle.paper.specs.declared.Mode.{Mode}
+use Rattle.paper.specs.declared.Mode.the-variants.{Plain, Fewest}
 use Rattle.paper.specs.Grid.{Node, Dir, E, N, W, S, rank, step, Grid, Free}
-use Rattle.paper.specs.Wire.{Legal, First, Answered}
+use Rattle.paper.specs.Wire.{Legal, First, Answered, runsOf, Straightest, AnsweredIn}
 
 -- ---- one answer
 
@@ -27,6 +29,26 @@ pub one-answer : (G : Grid) (s t : Node) (w v : List Dir) → Answered G s t w �
 one-answer G s t w v p q =
     let same : length v ≡ length w = le-antisymm (q .shortest w (p .legal)) (p .shortest v (q .legal)) in
     first-antisym w v (p .first v (q .legal) same) (q .first w (p .legal) (sym same))
+
+one-straightest : (G : Grid) (s t : Node) (w v : List Dir) → Straightest G s t w → Straightest G s t v → w ≡ v
+one-straightest G s t w v p q =
+    let same : length v ≡ length w = le-antisymm (q .shortest w (p .legal)) (p .shortest v (q .legal)) in
+    let few : runsOf s v ≡ runsOf s w = le-antisymm (q .straightest w (p .legal) (sym same)) (p .straightest v (q .legal) same) in
+    first-antisym w v (p .first v (q .legal) same few) (q .first w (p .legal) (sym same) (sym few))
+
+-- in either mode one wire is answered, which is legal, and as short as in the other
+
+pub one-in : (m : Mode) (G : Grid) (s t : Node) (w v : List Dir) → AnsweredIn m G s t w → AnsweredIn m G s t v → w ≡ v
+one-in Plain = one-answer
+one-in Fewest = one-straightest
+
+pub in-legal : (m : Mode) (G : Grid) (s t : Node) (w : List Dir) → AnsweredIn m G s t w → Legal G s t w
+in-legal Plain G s t w a = a .legal
+in-legal Fewest G s t w a = a .legal
+
+pub in-shortest : (m : Mode) (G : Grid) (s t : Node) (w : List Dir) → AnsweredIn m G s t w → (v : List Dir) → Legal G s t v → length w ≤ length v
+in-shortest Plain G s t w a = a .shortest
+in-shortest Fewest G s t w a = a .shortest
 
 -- ---- directions are told by their rank
 

@@ -30,6 +30,11 @@ pub not-denied : {b : Bool} {P : Type 0} → Says b P → not b ≡ false → P
 not-denied {b = true} s e = s .fact tt
 not-denied {b = false} s e = absurd (subst T e tt)
 
+-- a fact with a test can be decided
+pub told : {b : Bool} {P : Type 0} → Says b P → Dec P
+told {b = true} s = yes (s .fact tt)
+told {b = false} s = no (s .test)
+
 -- ---- several facts
 
 -- the same fact in other words

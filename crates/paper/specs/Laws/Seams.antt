@@ -8,8 +8,10 @@ use mathlib.Core.Path.{_≡_, refl, ap}
 use mathlib.Core.Logic.{_↔_, _⊎_, inl, inr, ⊎-elim}
 use mathlib.Core.List.{List, [], _∷_, map}
 use Rattle.paper.specs.declared.Size.{Size}
+use Rattle.paper.specs.declared.Mode.{Mode}
+use Rattle.paper.specs.declared.Mode.the-variants.{Plain}
 use Rattle.paper.specs.Grid.{Node, Dir, step, Axis, level, upright, Area, Meets, Block, widened, Hits, Any, All, Blocked, edge, gridWith}
-use Rattle.paper.specs.Wire.{runs, Legal, Answered}
+use Rattle.paper.specs.Wire.{runs, Legal, Answered, AnsweredIn}
 use Rattle.paper.specs.Layout.{Thing, keep-out, wire, wires, keep-outs, sortOf, rectangle, areas, blocksOf, blocksTo, Along, across, Turning, ThingFits, Seamed, Covers, Covered, beside, Sealed, PartOf, InSeam, gridOf}
 use Rattle.paper.specs.Copper.{On, Inside}
 use Rattle.paper.specs.Laws.Opens.{legal-more, answered-alike}
@@ -63,12 +65,16 @@ legal-joined z ts s t v h = (
   legal-more (z .w) (z .h) _ _ (λ a p. open-iff z ts a p h .1) s t v,
 )
 
+pub in-joined : (m : Mode) (z : Size) (ts : List Thing) (s t : Node) (v : List Dir) → 1 ≤ z .clearance
+    → AnsweredIn m (gridOf z ts) s t v ↔ AnsweredIn m (gridWith (z .w) (z .h) (joined (blocksTo (z .clearance) wires ts))) s t v
+in-joined m z ts s t v h = (
+  answered-alike (z .w) (z .h) _ _ (λ a p. open-iff z ts a p h) s t m v,
+  answered-alike (z .w) (z .h) _ _ (λ a p. let i = open-iff z ts a p h in (i .1, i .0)) s t m v,
+)
+
 pub answered-joined : (z : Size) (ts : List Thing) (s t : Node) (v : List Dir) → 1 ≤ z .clearance
     → Answered (gridOf z ts) s t v ↔ Answered (gridWith (z .w) (z .h) (joined (blocksTo (z .clearance) wires ts))) s t v
-answered-joined z ts s t v h = (
-  answered-alike (z .w) (z .h) _ _ (λ a p. open-iff z ts a p h) s t v,
-  answered-alike (z .w) (z .h) _ _ (λ a p. let i = open-iff z ts a p h in (i .1, i .0)) s t v,
-)
+answered-joined = in-joined Plain
 
 -- ---- runs
 

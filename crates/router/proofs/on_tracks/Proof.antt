@@ -16,7 +16,6 @@ use Rattle.distances.proofs.distances.Reads as distances-reads
 use Rattle.edges.proofs.blank.Reads as blank-reads
 use Rattle.edges.proofs.edges.Reads as edges-reads
 use Rattle.router.proofs.index_of.Reads as index-of-reads
-use Rattle.router.proofs.tell.Reads as tell-reads
 
 blank-requires : tie.Need-blank-requires
 blank-requires c κs = search needs
@@ -77,8 +76,8 @@ distances-requires c κs =
       wide-y s,
     )
 
-tell-requires : tie.Need-tell-requires
-tell-requires c κs =
+by-mode-requires : tie.Need-by-mode-requires
+by-mode-requires c κs =
     let s = c .before .before .before .before .before .before .before .before .before .before .before .before .before .before .before .before .before .before .before .before .before .before .before .before .before .before .before in
     let g = s .args in
     ready (g .size) (g .x0 .now) (g .y0 .now) (g .x1 .now) (g .y1 .now) (g .c .now) (g .n) (g .p) (g .x) (g .y) (s .pre) _ _ _ _ _ (c .before .before .before .before .before .before .before .before .before .before .before .before .before .before .before .before .before .before .edges .ensures .0) (c .before .before .before .before .before .before .before .before .before .before .before .before .before .before .before .before .before .before .edges .ensures .1) (c .before .before .before .before .before .distances .ensures)
@@ -89,7 +88,7 @@ returns c =
     let s = c .before .before .before .before .before .before .before .before .before .before .before .before .before .before .before .before .before .before .before .before .before .before .before .before .before .before .before .before in
     let g = s .args in
     answered (g .size) (g .x0 .now) (g .y0 .now) (g .x1 .now) (g .y1 .now) (g .c .now) (g .n) (g .p) (g .x) (g .y) (s .pre) _ _ _ _ _ (c .before .before .before .before .before .before .before .before .before .before .before .before .before .before .before .before .before .before .before .edges .ensures .0) (c .before .before .before .before .before .before .before .before .before .before .before .before .before .before .before .before .before .before .before .edges .ensures .1) (c .before .before .before .before .before .before .distances .ensures)
-    (c .before .before .before .before .before .before .before .before .before .before .before .before .before .before .before .before .before .index-of .ensures) (c .before .before .before .before .before .before .before .before .before .before .before .before .before .before .before .index-of2 .ensures) (c .before .before .before .before .before .before .before .before .before .before .before .before .before .index-of3 .ensures) (c .before .before .before .before .before .before .before .before .before .before .before .index-of4 .ensures) _ (c .tell .ensures)
+    (c .before .before .before .before .before .before .before .before .before .before .before .before .before .before .before .before .before .index-of .ensures) (c .before .before .before .before .before .before .before .before .before .before .before .before .before .before .before .index-of2 .ensures) (c .before .before .before .before .before .before .before .before .before .before .before .before .before .index-of3 .ensures) (c .before .before .before .before .before .before .before .before .before .before .before .index-of4 .ensures) _ (g .mode) (c .by-mode .ensures)
 
 pub on-tracks-spec : {M : Type 1} → statement M
 on-tracks-spec =
@@ -103,5 +102,5 @@ on-tracks-spec =
     index-of-requires-3
     index-of-requires-4
     distances-requires
-    tell-requires
+    by-mode-requires
     returns)

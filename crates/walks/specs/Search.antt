@@ -1,20 +1,15 @@
--- The base: turns cost nothing. The trace over a settled table is the answered wire.
+-- What a search of the distances to a goal leaves behind: D has the steps still to go from each crossing.
 -- Assumes nothing.
 use Prim.Native.Nat.{ℕ, suc, _+_, _≤_, _<_}
 use native.Mathlib.Omega.{arith}
-use mathlib.Core.Path.{_≡_, refl, subst₂}
-use mathlib.Core.List.{List, [], _++_}
-use lib.ListN.{length, replicate}
-use Rattle.paper.specs.Grid.{Node, Dir, rank, step, Axis, Grid, Free}
-use Rattle.paper.specs.Wire.{Legal, Answered}
+use mathlib.Core.Path.{_≡_, subst₂}
+use Rattle.paper.specs.Grid.{Node, Dir, step, Axis, Grid, Free}
 use Rattle.paper.specs.Layout.{across}
 use Rattle.paper.specs.Laws.Steps.{axisOf}
 use Rattle.walks.specs.Axes.{coord, place, place-of, Sense, up, down, senseOf, Further, keeps, lands, EdgeAt, free}
 use Rattle.walks.specs.Tracks.{Tracks}
-use Rattle.walks.specs.Crossings.{Crossing, spot, crossings, far, Sliced}
+use Rattle.walks.specs.Crossings.{Crossing, crossings, far, Sliced}
 use Rattle.walks.specs.Ways.{Way, far-is, way-of}
-use Rattle.walks.specs.Turns.{Came, fresh, by, bend-most, best-answered}
-use Rattle.walks.specs.Tables
 
 module _ (G : Grid) (T : Axis → Tracks) (D : Node → ℕ) where
   -- from q the way in the direction is open and leads nearer by its length
@@ -34,12 +29,6 @@ module _ (G : Grid) (T : Axis → Tracks) (D : Node → ℕ) where
       → Leads (place a i j) d → D (place a i′ j) + w ≡ D (place a i j)
   led d i i′ j w h k l = rw (lands d i i′ j h, far-is T d i i′ j w h k) at (l .nearer)
 
-  -- the trace to g: always by the first direction that leads nearer
-  pub data Trace (g : Node) : Node → List Dir → Type 0 where
-    stop : Trace g g []
-    go : {q : Node} {d : Dir} {rest : List Dir} → Leads q d → ((e : Dir) → rank e < rank d → ¬ (Leads q e))
-        → Trace g (step d q) rest → Trace g q (replicate (far T d q) d ++ rest)
-
   -- no way makes a number smaller; where it is inf or more the search has not come
   abbrev pub Settled : ℕ → Type 0
   Settled inf = (d : Dir) (q : Node) → Free (crossings T G) q d → D (step d q) < inf → (D q < inf) × (D q ≤ D (step d q) + far T d q)
@@ -53,41 +42,6 @@ module _ (G : Grid) (T : Axis → Tracks) (D : Node → ℕ) where
     pub here : D g ≡ 0
     pub settled : Settled inf
     pub source : (q : Node) → Crossing T q → D q < owed → ¬ (q ≡ g) → (d : Dir) × Free (crossings T G) q d × (D (step d q) + far T d q ≤ D q)
-
-  -- ---- it is the general trace, through a table of no turns
-
-  abbrev none : Axis → Node → ℕ
-  none a q = 0
-
-  general : (g : Node) (m : Came) (q : Node) (v : List Dir) → Trace g q v → Tables.Trace 0 G T D none g m 0 q v
-  general g m q v stop = Tables.stop
-  general g m q v (go {d = d} {rest = rest} l others t) =
-      Tables.go {m = m} {c = 0} (record { clear = l .clear; nearer = l .nearer; turns = omega (arith, bend-most 0 m (axisOf d)) })
-      (λ e p f. others e p (record { clear = f .clear; nearer = f .nearer })) (general g (by (axisOf d)) (step d q) rest t)
-
-  -- it has as many steps as the table says
-  pub trace-length : (g : Node) → D g ≡ 0 → (q : Node) (v : List Dir) → Trace g q v → length v ≡ D q
-  trace-length g z q v t = Tables.trace-length 0 G T D none g z fresh 0 q v (general g fresh q v t)
-
-module _ {G : Grid} {T : Axis → Tracks} {D : Node → ℕ} {inf owed : ℕ} {g : Node} (sliced : Sliced G T) (done : Searched G T D inf owed g) where
-  settled : Tables.Settled 0 G T D (none G T D) inf
-  settled = record { steps = done .settled; straight = λ d q f r e. omega arith; turn = λ a b q i r. omega arith }
-
-  -- a crossing with a trace is reached
-  trace-reached : (q : Node) (v : List Dir) → Trace G T D g q v → D q < inf
-  trace-reached q v stop = omega (arith, done .here, done .some)
-  trace-reached q v (go {d = d} {rest = rest} l others t) = done .settled d q (l .clear) (trace-reached (step d q) rest t) .0
-
-  pub trace-answered : (q : Node) → Crossing T q → (v : List Dir) → Trace G T D g q v → Answered G (spot T q) (spot T g) v
-  trace-answered q i v t =
-      let all = general G T D g fresh q v t in
-      best-answered G (spot T q) (spot T g) v
-      (Tables.trace-best 0 G T D (none G T D) sliced inf settled g (done .on) (done .some) (done .here) (λ a. refl) q i 0 v all (trace-reached q v t)
-      (λ a. omega arith))
-
-  -- and from one that is not reached there is no wire
-  pub no-wire : (q : Node) → Crossing T q → inf ≤ D q → (v : List Dir) → ¬ (Legal G (spot T q) (spot T g) v)
-  no-wire = Tables.no-wire 0 G T D (none G T D) sliced inf settled g (done .on) (done .some) (done .here) (λ a. refl)
 
 -- ---- settled, said once over the axis
 

@@ -1,0 +1,6 @@
+pub mod Table
+pub mod Going
+pub mod Writing
+pub mod Counting
+pub mod Visiting
+pub mod One
