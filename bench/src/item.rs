@@ -57,6 +57,14 @@ impl Item {
         }
     }
 
+    /// The rectangle of a keep-out, or the runs of a wire as segments.
+    pub fn parts(&self) -> Vec<Rect> {
+        match self {
+            Item::Keepout(rect) => vec![*rect],
+            Item::Wire(wire) => wire.runs().collect(),
+        }
+    }
+
     pub fn block_count(&self) -> usize {
         match self {
             Item::Keepout(_) => 1,

@@ -128,7 +128,8 @@ pub fn print(
     Ok(last)
 }
 
-fn write_line(output: &mut impl Write, number: usize, answer: &Answer) -> io::Result<()> {
+/// The line of a record, with its end.
+pub fn write_line(output: &mut impl Write, number: usize, answer: &Answer) -> io::Result<()> {
     write!(output, "{number} {}", answer.code.number())?;
     if let Some(Blocked { pin, id }) = answer.code.blocked() {
         write!(output, " {pin} {id}")?;

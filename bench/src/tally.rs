@@ -48,10 +48,20 @@ impl Tally {
 
     /// Counts the records of a file while its sheet is printed.
     pub fn printing(input: impl Read, output: impl Write) -> Result<Tally, Stopped> {
+        Tally::watched(input, output, |_| {})
+    }
+
+    /// The same, telling the number of each record that is done.
+    pub fn watched(
+        input: impl Read,
+        output: impl Write,
+        mut watch: impl FnMut(usize),
+    ) -> Result<Tally, Stopped> {
         let (mut tally, mut reopened) = (Tally::default(), Reopened::default());
         let last = sheet::print(input, output, Board::default(), |seen| {
             tally.count(seen);
             tally.count_seams(seen, &mut reopened);
+            watch(seen.number);
         })?;
         tally.cut = last == Last::Cut;
         Ok(tally)

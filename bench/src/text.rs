@@ -57,23 +57,74 @@ pub enum Content {
     Rest(Vec<u8>),
 }
 
-/// Reads a text. Blank lines and what follows a `#` are skipped.
-pub fn read(text: &[u8]) -> Result<Vec<Line<'_>>, BadLine> {
-    let mut lines: Vec<Line> = Vec::new();
+/// Some editors begin a text with this mark of its byte order.
+const BYTE_ORDER_MARK: &[u8] = b"\xef\xbb\xbf";
+
+/// Reads a text. Blank lines and what follows a `#` are skipped. All lines that
+/// cannot be read are told.
+pub fn read(text: &[u8]) -> Result<Vec<Line<'_>>, Vec<BadLine>> {
+    let text = text.strip_prefix(BYTE_ORDER_MARK).unwrap_or(text);
+    let (mut lines, mut bad): (Vec<Line>, Vec<BadLine>) = (Vec::new(), Vec::new());
     for (index, line) in text.split(|&byte| byte == b'\n').enumerate() {
-        let bad = |what| BadLine { line: index + 1, what };
-        let words = words_of(line).map_err(bad)?;
-        let Some((word, rest)) = words.split_first() else { continue };
-        let content = content(word, rest).map_err(bad)?;
-        if let Some(before) = lines.last() {
-            before.check_followed_by(&content).map_err(bad)?;
+        match read_line(line, index + 1, lines.last()) {
+            Ok(line) => lines.extend(line),
+            Err(what) => bad.push(BadLine { line: index + 1, what }),
         }
-        lines.push(Line { number: index + 1, words, content });
     }
-    Ok(lines)
+    if bad.is_empty() {
+        Ok(lines)
+    } else {
+        Err(bad)
+    }
+}
+
+/// A line, unless it is blank; `before` is the one before it.
+fn read_line<'a>(
+    line: &'a [u8],
+    number: usize,
+    before: Option<&Line>,
+) -> Result<Option<Line<'a>>, String> {
+    let words = words_of(line)?;
+    let Some((word, rest)) = words.split_first() else { return Ok(None) };
+    let content = content(word, rest)?;
+    if let Some(before) = before {
+        before.check_followed_by(&content)?;
+    }
+    Ok(Some(Line { number, words, content }))
 }
 
 impl Line<'_> {
+    /// The bytes of its record; none if it stands for something else.
+    pub fn record(&self) -> &[u8] {
+        match &self.content {
+            Content::Record(bytes) => bytes,
+            Content::Draw(_) | Content::Rest(_) => &[],
+        }
+    }
+
+    fn no_record(&self) -> Option<BadLine> {
+        let word = self.words.first()?;
+        let what = format!(
+            "a record file holds no '{word}'; 'bench pack drawn' packs it, 'bench judge' tells of it"
+        );
+        let other = !matches!(self.content, Content::Record(_));
+        other.then_some(BadLine { line: self.number, what })
+    }
+
+    /// Is it packed as it stands, and yet hardly meant so? An id or a size of 0 is
+    /// refused by every board.
+    pub fn warning(&self) -> Option<String> {
+        let form = FORMS.iter().find(|form| self.words.first() == Some(&form.word))?;
+        let sized = form.kind == 1;
+        let zero = |(name, digits): (&&'static str, &&str)| {
+            let nought = digits.bytes().all(|digit| digit == b'0');
+            (nought && (sized || *name == ID)).then_some(*name)
+        };
+        let name = form.names.iter().zip(&self.words[1..]).find_map(zero)?;
+        let code = if sized { 3 } else { 1 };
+        Some(format!("{name} is 0, which gets code {code}"))
+    }
+
     fn check_followed_by(&self, next: &Content) -> Result<(), String> {
         let number = self.number;
         match (&self.content, next) {
@@ -89,21 +140,29 @@ impl Line<'_> {
 }
 
 /// Turns text into records.
-pub fn pack(text: &[u8]) -> Result<Vec<u8>, BadLine> {
-    let mut file = Vec::new();
-    for Line { number, words, content } in read(text)? {
-        let Content::Record(bytes) = content else {
-            let what =
-                format!("a record file holds no '{}'; 'bench pack drawn' packs it", words[0]);
-            return Err(BadLine { line: number, what });
-        };
-        file.extend(bytes);
+pub fn pack(text: &[u8]) -> Result<Vec<u8>, Vec<BadLine>> {
+    Ok(joined(&records(text)?))
+}
+
+/// The lines of a text that has nothing but records.
+pub fn records(text: &[u8]) -> Result<Vec<Line<'_>>, Vec<BadLine>> {
+    let lines = read(text)?;
+    let others: Vec<BadLine> = lines.iter().filter_map(Line::no_record).collect();
+    if others.is_empty() {
+        Ok(lines)
+    } else {
+        Err(others)
     }
-    Ok(file)
+}
+
+/// The record file of such lines.
+pub fn joined(lines: &[Line]) -> Vec<u8> {
+    lines.iter().flat_map(Line::record).copied().collect()
 }
 
 fn words_of(line: &[u8]) -> Result<Vec<&str>, String> {
-    let line = std::str::from_utf8(line).map_err(|_| "not readable as text".to_string())?;
+    let line = std::str::from_utf8(line)
+        .map_err(|_| "not readable as text: it is not UTF-8".to_string())?;
     let before_comment = line.split('#').next().unwrap_or("");
     Ok(before_comment.split_ascii_whitespace().collect())
 }
@@ -155,8 +214,13 @@ fn listed(names: &[&str]) -> String {
 }
 
 fn unknown(word: &str) -> String {
-    let known: Vec<&str> = FORMS.iter().map(|form| form.word).chain([RAW, DRAW, REST]).collect();
+    let known: Vec<&str> = known_words().collect();
     format!("unknown word '{word}'; known are {}", known.join(", "))
+}
+
+/// The words that a line can begin with.
+pub fn known_words() -> impl Iterator<Item = &'static str> {
+    FORMS.iter().map(|form| form.word).chain([RAW, DRAW, REST])
 }
 
 fn number(name: &str, digits: &str) -> Result<u16, String> {

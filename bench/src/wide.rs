@@ -163,6 +163,20 @@ impl WideMap {
         bands.filter_map(move |band| self.room_over(band, p.x))
     }
 
+    /// The rooms that doors lead to from a node, its own among them.
+    pub fn reached(&self, from: Point) -> Vec<Rect> {
+        let mut seen = vec![false; self.rooms.len()];
+        let mut next: Vec<usize> = self.rooms_at(from).collect();
+        let mut reached = Vec::new();
+        while let Some(room) = next.pop() {
+            if !std::mem::replace(&mut seen[room], true) {
+                reached.push(self.rooms[room].rect);
+                next.extend(&self.rooms[room].doors);
+            }
+        }
+        reached
+    }
+
     /// The answered wire between two different nodes, if there is one.
     pub fn shortest(&mut self, s: Point, t: Point) -> Option<Wire> {
         let dist = self.spread(t, s)?;

@@ -15,6 +15,11 @@ impl Wire {
         Wire { corners: numbers.chunks_exact(2).map(corner).collect() }
     }
 
+    /// A wire through these corners, of which there must be two.
+    pub fn through(corners: Vec<Point>) -> Option<Wire> {
+        (corners.len() >= 2).then_some(Wire { corners })
+    }
+
     pub fn corners(&self) -> &[Point] {
         &self.corners
     }

@@ -43,24 +43,34 @@ fn judged(name: &str, text: &str) -> (String, Option<i32>) {
 }
 
 fn example() -> String {
-    let path = bench_folder().with_file_name("examples").join("drawn.txt");
+    example_named("drawn.txt")
+}
+
+fn example_named(name: &str) -> String {
+    let path = bench_folder().with_file_name("examples").join(name);
     fs::read_to_string(path).expect("the example")
 }
 
-/// The example says after each draw what must be printed, worked by hand.
+/// The examples say after each draw what must be printed, worked by hand.
 #[test]
-fn the_example_is_printed_as_it_says() {
-    let example = example();
+fn the_examples_are_printed_as_they_say() {
+    let expected = assert_printed_as_it_says("drawn.txt");
+    for code in ["0 0", "0 4", "2", "9 2", "10", "20 3", "22", "23 2", "24 1"] {
+        assert!(expected.contains(&format!(" {code}\n")), "no {code}");
+    }
+    assert_printed_as_it_says("printer-drawn.txt");
+}
+
+fn assert_printed_as_it_says(name: &str) -> String {
+    let example = example_named(name);
     let draws = example.lines().filter(|line| line.starts_with("draw"));
     let said = |line: &str| {
         let comment = line.split("# ").nth(1).expect("a comment").to_string();
         comment.split(':').next().expect("a line").to_string() + "\n"
     };
     let expected: String = draws.map(said).collect::<String>() + "end\n";
-    assert_eq!(sheet(&pack(example.as_bytes()).expect("it packs")), expected);
-    for code in ["0 0", "0 4", "2", "9 2", "10", "20 3", "22", "23 2", "24 1"] {
-        assert!(expected.contains(&format!(" {code}\n")), "no {code}");
-    }
+    assert_eq!(sheet(&pack(example.as_bytes()).expect("it packs")), expected, "{name}");
+    expected
 }
 
 #[test]

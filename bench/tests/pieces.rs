@@ -7,7 +7,7 @@ use bench::drawn::text::{pack, unpack};
 use bench::rng::Rng;
 use bench::text;
 use common::drawn::{fed, sheet, wire};
-use common::{bounds, keepout, lay, undo};
+use common::{bounds, first_bad, keepout, lay, undo};
 
 /// Bounds and a legal wire.
 fn start() -> Vec<u8> {
@@ -123,12 +123,12 @@ fn bad_lines_say_where_and_what() {
         ("bytes 01\ndraw 1", 2, "line 1 gave under 12 bytes"),
         ("bytes 01\nrest 01", 2, "line 1 gave under 12 bytes"),
     ] {
-        let bad = pack(text.as_bytes()).expect_err(text);
+        let bad = first_bad(pack(text.as_bytes()), text);
         assert_eq!(bad.line, line, "{text:?}");
         assert!(bad.what.contains(what), "{text:?} gave {:?}", bad.what);
     }
     for (text, line, word) in [("undo\ndraw 1 2", 2, "draw"), ("rest 01", 1, "rest")] {
-        let bad = text::pack(text.as_bytes()).expect_err(text);
+        let bad = first_bad(text::pack(text.as_bytes()), text);
         assert_eq!(bad.line, line, "{text:?}");
         assert!(bad.what.starts_with(&format!("a record file holds no '{word}'")), "{bad:?}");
     }

@@ -204,7 +204,7 @@ fn wrong_readings_show() {
 /// The examples say after each record what must be printed, worked by hand.
 #[test]
 fn the_examples_are_printed_as_they_say() {
-    for name in ["pins.txt", "relay.txt"] {
+    for name in ["pins.txt", "relay.txt", "codes.txt"] {
         assert_printed_as_it_says(name);
     }
 }

@@ -4,26 +4,15 @@ mod common;
 
 use std::fs::File;
 use std::io::{Read, Write};
-use std::process::{Command, Output, Stdio};
+use std::process::{Command, Stdio};
 
+use common::programs::bench as run;
 use common::{worked_input, WORKED_SHEET};
 
 fn bench(args: &[&str]) -> Command {
     let mut command = Command::new(env!("CARGO_BIN_EXE_bench"));
     command.args(args).stdin(Stdio::piped()).stdout(Stdio::piped()).stderr(Stdio::piped());
     command
-}
-
-fn run(args: &[&str], input: &[u8]) -> Output {
-    let mut child = bench(args).spawn().expect("the program starts");
-    let mut stdin = child.stdin.take().expect("a pipe");
-    let input = input.to_vec();
-    // Fed from a thread: the program may write before it has read everything,
-    // and may end before that too.
-    let feeder = std::thread::spawn(move || stdin.write_all(&input));
-    let output = child.wait_with_output().expect("the program ends");
-    let _ = feeder.join().expect("the feeder ends");
-    output
 }
 
 fn text(bytes: &[u8]) -> &str {

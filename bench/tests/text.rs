@@ -4,7 +4,7 @@ mod common;
 
 use bench::rng::Rng;
 use bench::text::{pack, unpack, BadLine};
-use common::{ask, bounds, keepout, lay, record, takeout, undo};
+use common::{ask, bounds, first_bad, keepout, lay, record, takeout, undo};
 
 #[test]
 fn each_form() {
@@ -64,11 +64,11 @@ fn bad_lines_say_where_and_what() {
         ("bytes 01 0g", 1, "'0g' is not a byte"),
         ("bytes 01\n# so\nundo", 3, "line 1 gave under 12 bytes"),
     ] {
-        let BadLine { line: at, what: told } = pack(text.as_bytes()).expect_err(text);
+        let BadLine { line: at, what: told } = first_bad(pack(text.as_bytes()), text);
         assert_eq!(at, line, "{text:?}");
         assert!(told.contains(what), "{text:?} gave {told:?}");
     }
-    let not_text = pack(b"undo\n\xff").expect_err("a byte that is no text");
+    let not_text = first_bad(pack(b"undo\n\xff"), "a byte that is no text");
     assert_eq!(not_text.line, 2);
 }
 

@@ -6,6 +6,7 @@ use crate::draw::{Scene, Versus};
 use crate::generate::Style;
 use crate::geometry::Point;
 use crate::limits::{MAX_RECORDS, RECORD_BYTES};
+use crate::proved::corner;
 use crate::record::Record;
 use crate::tally::Tally;
 use crate::text::unpack;
@@ -91,10 +92,5 @@ impl Form for Records {
 
 /// The corners in a line of a sheet, as far as they can be read.
 fn corners(line: &Option<String>) -> Vec<Point> {
-    let corner = |word: &str| {
-        let (x, y) = word.split_once(':')?;
-        let number = |digits: &str| digits.parse::<u16>().ok().map(i32::from);
-        Some(Point::new(number(x)?, number(y)?))
-    };
     line.iter().flat_map(|line| line.split_whitespace()).filter_map(corner).collect()
 }

@@ -41,6 +41,10 @@ impl Wanted {
         Ok(wanted)
     }
 
+    pub fn named(&self) -> &[PathBuf] {
+        &self.named
+    }
+
     /// The named files, or random ones if none is named.
     pub fn sources<F: Form>(&self) -> Vec<Source> {
         if self.named.is_empty() {

@@ -1,7 +1,8 @@
 //! Where copper is tight: the edges of a board's tracks, open or shut, and at the
 //! ends of each track how much of it is open.
 
-use super::paper::{Mark, Paper};
+use super::marks::Mark;
+use super::paper::Paper;
 use crate::crowd::{Crowd, Track};
 use crate::geometry::{Point, Rect};
 
@@ -22,10 +23,9 @@ pub fn note(crowd: &Crowd) -> String {
     format!("; {open} of {edges} edges of tracks are open")
 }
 
-/// Draws each edge, the shut ones last, since they matter most; then the marks.
+/// Draws each edge, the shut ones last, since they matter most.
 pub fn add_edges(crowd: &Crowd, paper: &mut Paper) {
-    let most = crowd.vertical.len().max(crowd.level.len());
-    paper.begin_group(if most > MOST_BROAD { "fine" } else { "broad" });
+    paper.begin_group(thickness(crowd));
     let (xs, ys) = (places(&crowd.vertical), places(&crowd.level));
     let vertical = |at: i32, low: usize| Rect::new(at, ys[low], at, ys[low + 1]);
     let level = |at: i32, low: usize| Rect::new(xs[low], at, xs[low + 1], at);
@@ -37,9 +37,24 @@ pub fn add_edges(crowd: &Crowd, paper: &mut Paper) {
             add_edges_of(class, track, level, paper);
         }
     }
+    paper.end_group();
+}
+
+/// The marks go beside the board, where its edges are not seen.
+pub fn add_marks(crowd: &Crowd, paper: &mut Paper) {
+    paper.begin_group(thickness(crowd));
     paper.add_marks_below(crowd.vertical.iter().map(mark));
     paper.add_marks_beside(crowd.level.iter().map(mark));
     paper.end_group();
+}
+
+fn thickness(crowd: &Crowd) -> &'static str {
+    let most = crowd.vertical.len().max(crowd.level.len());
+    if most > MOST_BROAD {
+        "fine"
+    } else {
+        "broad"
+    }
 }
 
 fn places(tracks: &[Track]) -> Vec<i32> {

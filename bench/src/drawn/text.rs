@@ -1,22 +1,25 @@
 //! A piece file as readable text, a piece a line, and back.
 
 use super::pieces::{put_drawn, put_record, split, Piece};
-use crate::text::{hexadecimal_line, read, record_line, BadLine, Content, DRAW, REST};
+use crate::text::{hexadecimal_line, read, record_line, BadLine, Content, Line, DRAW, REST};
 
 /// Bytes on a line of what is no piece.
 const REST_BYTES: usize = 16;
 
 /// Turns text into pieces. A record of under twelve bytes gives a piece that is
 /// cut short.
-pub fn pack(text: &[u8]) -> Result<Vec<u8>, BadLine> {
-    let mut file = Vec::new();
-    for line in read(text)? {
-        put(&mut file, &line.content);
-    }
-    Ok(file)
+pub fn pack(text: &[u8]) -> Result<Vec<u8>, Vec<BadLine>> {
+    Ok(packed(&read(text)?))
 }
 
-pub fn put(file: &mut Vec<u8>, content: &Content) {
+/// The pieces of lines that were read.
+pub fn packed(lines: &[Line]) -> Vec<u8> {
+    let mut file = Vec::new();
+    lines.iter().for_each(|line| put(&mut file, &line.content));
+    file
+}
+
+fn put(file: &mut Vec<u8>, content: &Content) {
     match content {
         Content::Record(bytes) => put_record(file, bytes),
         Content::Draw(numbers) => put_drawn(file, numbers),

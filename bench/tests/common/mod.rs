@@ -11,6 +11,7 @@ use bench::fault::Fault;
 use bench::record::Record;
 use bench::route::{Method, Router};
 use bench::sheet;
+use bench::text::BadLine;
 
 /// A record's bytes, put together by hand from document 01's layout.
 pub fn record(kind: u8, id: u16, numbers: [u16; 4]) -> Vec<u8> {
@@ -103,6 +104,11 @@ pub fn sheet_by(file: &[u8], method: Method, fault: Fault) -> String {
     let board = Board::with_router(Router::new(method, fault));
     sheet::print(file, &mut lines, board, |_| {}).expect("memory can be read and written");
     String::from_utf8(lines).expect("a sheet is text")
+}
+
+/// The first line of a text that cannot be packed.
+pub fn first_bad(packed: Result<Vec<u8>, Vec<BadLine>>, text: &str) -> BadLine {
+    packed.expect_err(text).into_iter().next().expect("a bad line is told")
 }
 
 /// The answers of a file, without the records' numbers and the last line.

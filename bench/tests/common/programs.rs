@@ -3,7 +3,7 @@
 use std::fs;
 use std::io::Write;
 use std::path::{Path, PathBuf};
-use std::process::{Command, Stdio};
+use std::process::{Command, Output, Stdio};
 
 use bench::peer::{self, Peer};
 
@@ -32,6 +32,30 @@ pub fn spoiled(peer: Peer, name: &str, piece: &str, by: &str) -> PathBuf {
         assert_eq!(source.matches(piece).count(), 1, "{piece}");
         source.replace(piece, by)
     })
+}
+
+/// Says something that is heard even if the test passes.
+pub fn say(what: &str) {
+    let _ = writeln!(std::io::stderr(), "{what}");
+}
+
+/// A run of the bench's own program.
+pub fn bench(args: &[&str], input: &[u8]) -> Output {
+    let mut child = Command::new(env!("CARGO_BIN_EXE_bench"))
+        .args(args)
+        .stdin(Stdio::piped())
+        .stdout(Stdio::piped())
+        .stderr(Stdio::piped())
+        .spawn()
+        .expect("the program starts");
+    let mut stdin = child.stdin.take().expect("a pipe");
+    let input = input.to_vec();
+    // Fed from a thread: the program may write before it has read everything, and may end
+    // before that too.
+    let feeder = std::thread::spawn(move || stdin.write_all(&input));
+    let output = child.wait_with_output().expect("the program ends");
+    let _ = feeder.join().expect("the feeder ends");
+    output
 }
 
 /// What a program prints; `None` if it fails.

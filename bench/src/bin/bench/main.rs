@@ -1,20 +1,21 @@
 //! The command line of the bench; the work is in the library.
 
+mod board;
+mod doors;
 mod files;
+mod options;
 mod outcome;
 mod programs;
 mod time;
 mod usage;
 
 use std::env;
-use std::io::{self, BufReader, Write};
+use std::io::{self, Write};
 use std::process::ExitCode;
 
+use bench::cases;
 use bench::compare::{Crowding, Drawn, Records};
-use bench::draw::Scene;
-use bench::tally::Tally;
-use bench::{cases, drawn, text};
-use outcome::{bad_line, read, unread, write, Failure};
+use outcome::{write, Failure};
 
 fn main() -> ExitCode {
     let args: Vec<String> =
@@ -25,6 +26,9 @@ fn main() -> ExitCode {
         Err(Failure::Differs) => return ExitCode::FAILURE,
         Err(Failure::Usage(what)) => (format!("bench: {what}\n\n{}", usage::text()), 2),
         Err(Failure::Told(what)) => (format!("bench {}: {what}\n", args[0]), 1),
+        Err(Failure::Lines(lines)) => {
+            (lines.iter().map(|what| format!("bench {}: {what}\n", args[0])).collect(), 1)
+        }
     };
     // If standard error is closed too, there is nobody left to tell.
     let _ = io::stderr().write_all(what.as_bytes());
@@ -32,22 +36,24 @@ fn main() -> ExitCode {
 }
 
 fn run(args: &[&str]) -> Result<(), Failure> {
+    if args.first() == Some(&"help") || args.iter().any(|arg| ["--help", "-h"].contains(arg)) {
+        return write(usage::text().as_bytes());
+    }
     match args {
         [] => outcome::usage("no command"),
         ["print"] => files::print(),
         ["print", "drawn"] => files::print_drawn(),
         ["print", "crowd"] => files::print_crowd(),
-        ["tally"] => {
-            let tally = Tally::of(BufReader::new(io::stdin())).map_err(unread)?;
-            write(tally.to_string().as_bytes())
-        }
+        ["tally"] => write(files::tally()?.as_bytes()),
         ["tally", "drawn"] => write(files::tally_drawn()?.as_bytes()),
-        ["pack"] => write(&text::pack(&read()?).map_err(bad_line)?),
-        ["pack", "drawn"] => write(&drawn::text::pack(&read()?).map_err(bad_line)?),
-        ["unpack"] => write(text::unpack(&read()?).as_bytes()),
-        ["unpack", "drawn"] => write(drawn::text::unpack(&read()?).as_bytes()),
-        ["draw"] => write(scene()?.svg().as_bytes()),
-        ["draw", "--crowd"] => write(scene()?.with_crowd().svg().as_bytes()),
+        ["pack"] => write(&files::pack()?),
+        ["pack", "drawn"] => write(&files::pack_drawn()?),
+        ["unpack"] => write(files::unpack()?.as_bytes()),
+        ["unpack", "drawn"] => write(files::unpack_drawn()?.as_bytes()),
+        ["records", rest @ ..] => board::records(rest),
+        ["board", rest @ ..] => board::board(rest),
+        ["draw", rest @ ..] => board::draw(rest),
+        ["diff", rest @ ..] => board::diff(rest),
         ["compare", "drawn", rest @ ..] => programs::compare::<Drawn>(rest),
         ["compare", "crowd", rest @ ..] => programs::compare::<Crowding>(rest),
         ["compare", rest @ ..] => programs::compare::<Records>(rest),
@@ -59,7 +65,6 @@ fn run(args: &[&str]) -> Result<(), Failure> {
         ["gen", rest @ ..] => write(&files::generate(rest)?),
         ["questions", rest @ ..] => write(&files::questions(rest)?),
         ["time", rest @ ..] => time::time(rest),
-        ["draw", ..] => outcome::usage("draw takes nothing on the command line but --crowd"),
         ["print", ..] => {
             outcome::usage("print takes nothing on the command line but 'drawn' or 'crowd'")
         }
@@ -68,9 +73,4 @@ fn run(args: &[&str]) -> Result<(), Failure> {
         }
         [command, ..] => outcome::usage(format!("unknown command '{command}'")),
     }
-}
-
-/// The board that the records on standard input lead to.
-fn scene() -> Result<Scene, Failure> {
-    Scene::of(BufReader::new(io::stdin())).map_err(unread)
 }

@@ -1,6 +1,7 @@
-//! How a command ends, and what it reads and writes.
+//! How a command ends, and what it writes.
 
-use std::io::{self, Read, Write};
+use std::env;
+use std::io::{self, Write};
 use std::time::{Duration, Instant};
 
 use bench::text::BadLine;
@@ -11,6 +12,8 @@ pub enum Failure {
     Usage(String),
     /// Something else went wrong.
     Told(String),
+    /// Several things went wrong, each told on a line of its own.
+    Lines(Vec<String>),
     /// Two sheets differ, which was already told.
     Differs,
     /// Nobody reads the output any more, which is no one's fault.
@@ -19,17 +22,6 @@ pub enum Failure {
 
 pub fn usage<T>(what: impl Into<String>) -> Result<T, Failure> {
     Err(Failure::Usage(what.into()))
-}
-
-pub fn read() -> Result<Vec<u8>, Failure> {
-    read_up_to(usize::MAX)
-}
-
-/// Reads so many bytes at most, for those who look at no more.
-pub fn read_up_to(most: usize) -> Result<Vec<u8>, Failure> {
-    let mut bytes = Vec::new();
-    io::stdin().take(most as u64).read_to_end(&mut bytes).map_err(unread)?;
-    Ok(bytes)
 }
 
 pub fn write(bytes: &[u8]) -> Result<(), Failure> {
@@ -48,8 +40,24 @@ pub fn unwritten(error: io::Error) -> Failure {
     }
 }
 
-pub fn bad_line(bad: BadLine) -> Failure {
-    Failure::Told(format!("line {}: {}", bad.line, bad.what))
+/// More bad lines than this are only counted.
+const MOST_BAD_LINES: usize = 20;
+
+pub fn bad_lines(bad: &[BadLine]) -> Failure {
+    let told = bad.iter().take(MOST_BAD_LINES);
+    let mut lines: Vec<String> =
+        told.map(|BadLine { line, what }| format!("line {line}: {what}")).collect();
+    if bad.len() > MOST_BAD_LINES {
+        lines.push(format!("and {} more bad lines", bad.len() - MOST_BAD_LINES));
+    }
+    Failure::Lines(lines)
+}
+
+/// Tells something beside the output of the command that runs.
+pub fn warn(what: &str) {
+    let command = env::args().nth(1).unwrap_or_default();
+    // If nobody hears it, that is no harm.
+    let _ = writeln!(io::stderr(), "bench {command}: {what}");
 }
 
 /// How often a long run says how far it is.

@@ -1,19 +1,23 @@
 //! The commands that hear another program: compare and judge.
 
-use std::fs;
 use std::path::{Path, PathBuf};
 
-use bench::compare::{self, Drawn, Form, Report, Rival, Step, Wanted};
-use bench::drawn::text::put;
+use bench::compare::{self, Drawn, Form, Records, Report, Rival, Step, Wanted};
+use bench::drawn::text::packed;
 use bench::drawn::words::told;
 use bench::launch::{check_there, proved};
 use bench::peer::bench_folder;
 use bench::text;
 
-use crate::outcome::{bad_line, usage, write, Failure, Progress};
+use crate::doors::{check_looks, check_named, read_file, Wanted as Looked};
+use crate::outcome::{bad_lines, usage, write, Failure, Progress};
 
 pub fn compare<F: Form>(args: &[&str]) -> Result<(), Failure> {
     let wanted = Wanted::read::<F>(args).map_err(Failure::Usage)?;
+    let looked = if F::PIECES == Records::PIECES { Looked::Records } else { Looked::Pieces };
+    for path in wanted.named() {
+        check_named(&path.to_string_lossy(), looked)?;
+    }
     let rival = rival(&wanted.program, F::PROGRAM)?;
     let mut progress = Progress::of("compare");
     let report = compare::compare::<F>(&rival, &wanted.sources::<F>(), |step| match step {
@@ -52,11 +56,10 @@ pub fn judge(args: &[&str]) -> Result<(), Failure> {
         ["--program", program, path] => (PathBuf::from(".").join(program), path),
         _ => return usage("judge takes [--program PROGRAM] FILE"),
     };
-    let text =
-        fs::read(path).map_err(|error| Failure::Told(format!("cannot read {path}: {error}")))?;
-    let lines = text::read(&text).map_err(bad_line)?;
-    let mut file = Vec::new();
-    lines.iter().for_each(|line| put(&mut file, &line.content));
+    let text = read_file(path)?;
+    check_looks(path, &text, Looked::Text)?;
+    let lines = text::read(&text).map_err(|bad| bad_lines(&bad))?;
+    let file = packed(&lines);
     let run = rival(&program, Drawn::PROGRAM)?.run(&file, lines.len()).map_err(Failure::Told)?;
     if let Some(fault) = run.fault {
         return Err(Failure::Told(format!("the program {fault}")));

@@ -5,15 +5,29 @@ use bench::generate::{crowd, DEFAULT_COUNT, STYLES};
 use bench::questions::KINDS;
 
 const COMMANDS: &str = "\
-usage: bench COMMAND, reading standard input and writing standard output
+usage: bench COMMAND, reading standard input and writing standard output;
+--help prints this
 
   print                   records -> the sheet's lines
   gen SEED STYLE [COUNT]  nothing -> a random record file
   tally                   records -> how often each code came, 11 and 18 by pin
   pack                    readable text -> records
   unpack                  records -> readable text
-  draw [--crowd]          records -> an SVG picture of the board; with --crowd
-                          its tracks, edge by edge, in place of the last answer
+  draw [--sheet SHEET] [--after N] [--window x0 y0 x1 y1] [--crowd]
+                          records or text -> an SVG picture of the board after
+                          all records, or after N of them, or of a part of it,
+                          with the last lay or ask; its wires are those of SHEET,
+                          or else the second router's; with --crowd its tracks,
+                          edge by edge, in place of the last answer
+  board --sheet SHEET [--to NAME] [FILE]
+                          FILE (or standard input), text or records, with its
+                          sheet -> each answer in words; NAME.svg, a picture, and
+                          NAME.html, a page to step through (NAME is FILE unless
+                          given); ./board makes the sheet with the proved program
+  records [FILE]          FILE (or standard input), text or records -> records
+  diff [--svg PICTURE] A B
+                          the boards that two files leave, text or records ->
+                          items added, gone and changed; PICTURE shows both
   compare [--records N] [--seed S] [--program PROGRAM] [FILE...]
                           nothing -> the first difference of PROGRAM's sheets
                           (trackprint's unless given) from this router's, on
