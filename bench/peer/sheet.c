@@ -1,5 +1,5 @@
 // The peer of trackprint: records on standard input, document 01's sheet (with
-// document 02's orders 2 and 3) on standard output, as a good engineer would write it
+// document 02's orders 2, 3 and 6) on standard output, as a good engineer would write it
 // without proofs. It is only timed beside the proved program and compared with
 // the second router; no expected output is made with it.
 
@@ -33,7 +33,7 @@ enum {
     PIN_NEAR_WIRE = 18,
 };
 
-enum { BOUNDS = 1, KEEPOUT, LAY, ASK, TAKE_OUT, UNDO };
+enum { BOUNDS = 1, KEEPOUT, LAY, ASK, TAKE_OUT, UNDO, ASK_STRAIGHT = 8, LAY_STRAIGHT };
 
 // A record as it stands in the file, little-endian as the machine is.
 typedef struct {
@@ -234,6 +234,7 @@ static u32 ask(const Record *r, Answer *a)
     board.sy = r->b;
     board.tx = r->c;
     board.ty = r->d;
+    board.straight = r->kind >= ASK_STRAIGHT;
     answer(&board, a);
     return a->code;
 }
@@ -288,8 +289,10 @@ static int is_plain(const Record *r)
     switch (r->kind) {
     case BOUNDS: return r->id == 0 && r->d == 0;
     case KEEPOUT:
-    case LAY: return r->id != 0;
-    case ASK: return r->id == 0;
+    case LAY:
+    case LAY_STRAIGHT: return r->id != 0;
+    case ASK:
+    case ASK_STRAIGHT: return r->id == 0;
     case TAKE_OUT: return r->id != 0 && empty;
     case UNDO: return r->id == 0 && empty;
     default: return 0;
@@ -308,8 +311,10 @@ static u32 take(const Record *r, Answer *a)
         return NO_BOUNDS;
     switch (r->kind) {
     case KEEPOUT: return keep_out(r);
-    case LAY: return lay(r, a);
-    case ASK: return ask(r, a);
+    case LAY:
+    case LAY_STRAIGHT: return lay(r, a);
+    case ASK:
+    case ASK_STRAIGHT: return ask(r, a);
     case TAKE_OUT: return take_out(r);
     default: return undo();
     }

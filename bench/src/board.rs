@@ -9,7 +9,7 @@ use crate::fault::Fault;
 use crate::geometry::{Point, Rect};
 use crate::item::{Frame, Item};
 use crate::limits::{MAX_BLOCKS, MAX_CLEARANCE, MAX_KEPT, MAX_RUNS, MAX_SIDE};
-use crate::record::{Pins, Record};
+use crate::record::{Mode, Pins, Record};
 use crate::route::Router;
 use crate::wire::Wire;
 
@@ -109,6 +109,13 @@ impl Board {
         self.router.shortest(&frame, s, t)
     }
 
+    /// The same, of those with the fewest runs.
+    pub fn straightest(&mut self, s: Point, t: Point) -> Option<Wire> {
+        let frame = self.frame?;
+        self.shortest(s, t)?;
+        self.router.straightest(&frame, s, t)
+    }
+
     /// Makes this a board of that size with these items and no kept changes.
     pub fn stand<'a>(
         &mut self,
@@ -140,10 +147,14 @@ impl Board {
         match record {
             Record::Bounds { w, h, clearance } => self.begin(Frame { w, h, clearance }),
             Record::Keepout { id, rect } => self.keep_out(&frame?, id, rect),
-            Record::Lay { id, pins } => self.lay(&frame?, id, pins),
-            Record::Ask { pins } => self.find(&frame?, pins).map(Some),
+            Record::Lay { id, pins } => self.lay(&frame?, id, pins, Mode::Plain),
+            Record::Ask { pins } => self.find(&frame?, pins, Mode::Plain).map(Some),
             Record::TakeOut { id } => self.take_out(&frame?, id),
             Record::Undo => self.undo(&frame?),
+            Record::AskStraight { pins } => {
+                self.find(&frame?, pins, self.router.fault().mode_of_ask()).map(Some)
+            }
+            Record::LayStraight { id, pins } => self.lay(&frame?, id, pins, Mode::Straight),
         }
     }
 
@@ -187,17 +198,27 @@ impl Board {
         self.wires().any(|wire| wire.runs().any(meets))
     }
 
-    fn lay(&mut self, frame: &Frame, id: u16, pins: Pins) -> Outcome {
+    fn lay(&mut self, frame: &Frame, id: u16, pins: Pins, mode: Mode) -> Outcome {
         self.check_id_free(id)?;
-        let wire = self.find(frame, pins)?;
-        let item = Item::Wire(wire.clone());
+        let wire = self.find(frame, pins, mode)?;
+        let item = Item::Wire(self.unless(Fault::LaidPlain, frame, pins, &wire));
         self.check_room_for(&item)?;
-        self.change_by_adding(frame, id, item);
+        match self.router.fault() {
+            Fault::UnkeptStraight if mode == Mode::Straight => self.add(frame, id, item),
+            _ => self.change_by_adding(frame, id, item),
+        }
         Ok(Some(wire))
     }
 
+    /// The answered wire, unless that fault puts kind 4's in its place.
+    fn unless(&mut self, fault: Fault, frame: &Frame, pins: Pins, wire: &Wire) -> Wire {
+        let planted = self.router.fault() == fault;
+        let plain = planted.then(|| self.router.find(frame, pins, Mode::Plain)).flatten();
+        plain.unwrap_or_else(|| wire.clone())
+    }
+
     /// Finds the answered wire; lay and ask share these checks.
-    fn find(&mut self, frame: &Frame, pins: Pins) -> Result<Wire, Code> {
+    fn find(&mut self, frame: &Frame, pins: Pins, mode: Mode) -> Result<Wire, Code> {
         let Pins { s, t } = pins;
         if !(frame.holds(s) && frame.holds(t)) {
             return Err(Code::PinOffBoard);
@@ -209,8 +230,8 @@ impl Board {
             return Err(code);
         }
         self.router.prepare(frame, self.items.values());
-        let wire = self.router.shortest(frame, s, t).ok_or(Code::NoWire)?;
-        if wire.run_count() > MAX_RUNS {
+        let wire = self.router.find(frame, pins, mode).ok_or(Code::NoWire)?;
+        if self.unless(Fault::RunsOfPlain, frame, pins, &wire).run_count() > MAX_RUNS {
             return Err(Code::TooManyRuns);
         }
         Ok(wire)

@@ -2,7 +2,7 @@
 //! come to. The other styles have enough blocked pins to tell wrong readings.
 //!
 //! It is one file from one seed, so that another router can be held to it
-//! without the bench.
+//! without the bench. Each style has kinds 8 and 9 among its lays and asks.
 
 use crate::generate::{series, Style};
 use crate::tally::Tally;

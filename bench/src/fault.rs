@@ -1,15 +1,15 @@
 //! Faults that the tests plant on purpose, to show that they would be noticed.
 //!
 //! The program always answers with `Fault::None`. The others are the four ways
-//! astray that document 01 names, wrong readings of document 02's order 2, and its
-//! order 3 left out; the last also tells `reopened` and `questions` where seams
+//! astray that document 01 names, wrong readings of document 02's orders 2 and 6, and
+//! its order 3 left out; the last also tells `reopened` and `questions` where seams
 //! matter.
 
 use crate::blocked::Order;
 use crate::cells::Cover;
-use crate::geometry::Rect;
+use crate::geometry::{Dir, Rect};
 use crate::item::{Frame, Sort};
-use crate::record::Pins;
+use crate::record::{Mode, Pins};
 
 #[derive(Clone, Copy, PartialEq, Eq, Debug, Default)]
 pub enum Fault {
@@ -38,6 +38,22 @@ pub enum Fault {
     PinsExchanged,
     /// Seams between keep-outs are left open, for wires and pins alike.
     OpenSeams,
+    /// For kinds 8 and 9 the wire goes straight on whenever that leads nearer.
+    GreedyStraight,
+    /// For these kinds few runs come before a short length.
+    TurnsFirst,
+    /// They get the most runs in the place of the fewest.
+    MostRuns,
+    /// Of wires with the fewest runs the first in the order N, E, S, W is taken.
+    OtherOrder,
+    /// 13 counts the runs of kind 4's wire.
+    RunsOfPlain,
+    /// What lies after a kind 9, and what 14 counts, is kind 3's wire.
+    LaidPlain,
+    /// An accepted kind 9 is not kept as a change.
+    UnkeptStraight,
+    /// Kind 8 is answered as kind 4.
+    AskedPlain,
 }
 
 impl Fault {
@@ -50,6 +66,20 @@ impl Fault {
         Fault::CodeByCode,
         Fault::SecondPinFirst,
         Fault::PinsExchanged,
+    ];
+
+    /// The wrong readings of order 6. They change nothing but kinds 8 and 9 and what
+    /// comes of a 9. The unit search has all of them, the wide search those that no
+    /// search is needed for, and the other order.
+    pub const OF_TURNS: [Fault; 8] = [
+        Fault::GreedyStraight,
+        Fault::TurnsFirst,
+        Fault::MostRuns,
+        Fault::OtherOrder,
+        Fault::RunsOfPlain,
+        Fault::LaidPlain,
+        Fault::UnkeptStraight,
+        Fault::AskedPlain,
     ];
 
     /// The blocks of one item as this fault sees them.
@@ -104,6 +134,30 @@ impl Fault {
         match self {
             Fault::PinsExchanged => Pins { s: t, t: s },
             _ => Pins { s, t },
+        }
+    }
+
+    /// The order of steps in which kinds 8 and 9 spell their wires.
+    pub fn steps(self) -> [Dir; 4] {
+        match self {
+            Fault::OtherOrder => [Dir::N, Dir::E, Dir::S, Dir::W],
+            _ => Dir::ORDER,
+        }
+    }
+
+    /// The number of runs that kinds 8 and 9 choose.
+    pub fn fewest(self, counts: impl Iterator<Item = u16>) -> Option<u16> {
+        match self {
+            Fault::MostRuns => counts.max(),
+            _ => counts.min(),
+        }
+    }
+
+    /// The mode of a kind 8.
+    pub fn mode_of_ask(self) -> Mode {
+        match self {
+            Fault::AskedPlain => Mode::Plain,
+            _ => Mode::Straight,
         }
     }
 }

@@ -3,7 +3,8 @@
 //!
 //! A style repeats its episode, each on a board of its own, until the file is
 //! as long as wanted. The maker keeps a board beside the file, so that it can
-//! aim: at ids in use, at sides that already stand, at pins across a block.
+//! aim: at ids in use, at sides that already stand, at pins across a block. About a
+//! third of the lays and asks of every style are kinds 9 and 8.
 
 mod aim;
 mod bricks;
@@ -14,6 +15,7 @@ mod episodes;
 mod maker;
 mod maze;
 mod pins;
+mod stairs;
 
 use maker::Maker;
 
@@ -43,7 +45,7 @@ pub const STYLES: [Style; 12] = [
     },
     Style {
         name: "maze",
-        about: "wires of about 24 runs, boards of about 46 blocks",
+        about: "wires of about 24 runs, boards of about 46 blocks, stairs",
         episode: maze::maze,
     },
     Style {

@@ -47,6 +47,20 @@ impl Dir {
             Dir::S => (0, -1),
         }
     }
+
+    pub fn axis(self) -> Axis {
+        match self {
+            Dir::E | Dir::W => Axis::X,
+            Dir::N | Dir::S => Axis::Y,
+        }
+    }
+}
+
+/// What a step goes along.
+#[derive(Clone, Copy, PartialEq, Eq, Debug)]
+pub enum Axis {
+    X,
+    Y,
 }
 
 /// A rectangle with sides along the axes. Blocks are read as open ones (their
@@ -112,6 +126,11 @@ impl Rect {
             self.x1.min(other.x1),
             self.y1.min(other.y1),
         )
+    }
+
+    /// Does the closed rectangle hold all of another one?
+    pub fn covers(self, other: Rect) -> bool {
+        self.x0 <= other.x0 && other.x1 <= self.x1 && self.y0 <= other.y0 && other.y1 <= self.y1
     }
 
     /// The point of the closed rectangle nearest to `p`.

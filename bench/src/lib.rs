@@ -7,8 +7,8 @@
 //! Read it in this order: `limits` and `geometry` name things, `record` reads
 //! twelve bytes, `board` keeps the items and decides the codes, `cells` says which
 //! seams between keep-outs are closed, `blocked` what blocks a pin, `route` picks
-//! one of the two searches (`unit`, `wide`), `sheet` prints. `drawn` judges wires
-//! drawn by hand, `crowd` counts open edges of tracks. The other tools are `generate`,
+//! one of the two searches (`unit`, `wide`, each with its `straight` for kinds 8 and
+//! 9), `sheet` prints. `drawn` judges wires drawn by hand, `crowd` counts open edges of tracks. The other tools are `generate`,
 //! `tally` (with `reopened`), `text`, and for the designer's day `story`: a file with its
 //! proved sheet (`proved`) record by record, what `stand`s after each, the answer in
 //! `words` (`reach` says how far a wire could get). `draw` makes pictures of it, `page` a

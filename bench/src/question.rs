@@ -2,8 +2,9 @@
 //!
 //! Words are 16-bit little-endian. Word 0 is the number of questions, word 1
 //! how often all of them are asked (reps); then each question has 238 words:
-//! W, H, sx, sy, tx, ty, n, 0, then 46 rows of x0, y0, x1, y1, c, of which those
-//! from n on are 0. A row is a block: an area widened by c, as an open box. Rows
+//! W, H, sx, sy, tx, ty, n, mode, then 46 rows of x0, y0, x1, y1, c, of which those
+//! from n on are 0. The mode is 0 for kind 4's answer, as in the files that are kept,
+//! and 1 for kind 8's. A row is a block: an area widened by c, as an open box. Rows
 //! with c = 0 are keep-outs, between which seams are closed.
 
 use crate::cells::Cover;
@@ -12,6 +13,7 @@ use crate::fault::Fault;
 use crate::geometry::{Point, Rect};
 use crate::item::Frame;
 use crate::limits::{MAX_BLOCKS, MAX_RUNS};
+use crate::record::{Mode, Pins};
 use crate::route::Router;
 use crate::wire::Wire;
 
@@ -42,11 +44,20 @@ impl Question {
     /// The second router's answer, a wire or code 12 or 13; `None` if a pin is
     /// off the board or blocked, or both are at one node.
     pub fn answer(&self) -> Option<Result<Wire, Code>> {
-        self.answer_with(Fault::None)
+        self.answer_in(Mode::Plain)
     }
 
-    /// The answer with seams closed, or with the fault that leaves them open.
+    /// The answer of kind 4, or that of kind 8.
+    pub fn answer_in(&self, mode: Mode) -> Option<Result<Wire, Code>> {
+        self.answer_by(mode, Fault::None)
+    }
+
+    /// Kind 4's answer with seams closed, or with the fault that leaves them open.
     pub fn answer_with(&self, fault: Fault) -> Option<Result<Wire, Code>> {
+        self.answer_by(Mode::Plain, fault)
+    }
+
+    fn answer_by(&self, mode: Mode, fault: Fault) -> Option<Result<Wire, Code>> {
         // The rows bring their own clearance, so the frame's says nothing here.
         let frame = Frame { w: self.w, h: self.h, clearance: 0 };
         let blocks = self.rows.iter().map(|row| row.area.widened(row.c)).collect();
@@ -57,16 +68,17 @@ impl Question {
         if !asked(self.s) || !asked(self.t) || self.s == self.t {
             return None;
         }
-        Some(match router.shortest(&frame, self.s, self.t) {
+        Some(match router.find(&frame, Pins { s: self.s, t: self.t }, mode) {
             None => Err(Code::NoWire),
             Some(wire) if wire.run_count() > MAX_RUNS => Err(Code::TooManyRuns),
             Some(wire) => Ok(wire),
         })
     }
 
-    fn words(&self) -> [u16; QUESTION_WORDS] {
+    fn words(&self, mode: Mode) -> [u16; QUESTION_WORDS] {
         let Question { w, h, s, t, rows } = self;
-        let head = [*w, *h, s.x, s.y, t.x, t.y, rows.len() as i32, 0];
+        let mode = i32::from(mode == Mode::Straight);
+        let head = [*w, *h, s.x, s.y, t.x, t.y, rows.len() as i32, mode];
         let rows = rows.iter().flat_map(|&Row { area, c }| [area.x0, area.y0, area.x1, area.y1, c]);
         let mut words = [0; QUESTION_WORDS];
         for (word, number) in words.iter_mut().zip(head.into_iter().chain(rows)) {
@@ -94,10 +106,15 @@ impl Question {
     }
 }
 
-/// The bytes of a question file.
+/// The bytes of a question file, as it is kept.
 pub fn file(questions: &[Question], reps: u16) -> Vec<u8> {
+    file_in(Mode::Plain, questions, reps)
+}
+
+/// The same with all questions in one mode.
+pub fn file_in(mode: Mode, questions: &[Question], reps: u16) -> Vec<u8> {
     let count = u16::try_from(questions.len()).expect("few questions");
-    let words = questions.iter().flat_map(Question::words);
+    let words = questions.iter().flat_map(|question| question.words(mode));
     let bytes: Vec<u8> =
         [count, reps].into_iter().chain(words).flat_map(u16::to_le_bytes).collect();
     assert!(bytes.len() <= FILE_BYTES, "{} questions do not fit a file", questions.len());
@@ -119,9 +136,14 @@ pub fn read(file: &[u8]) -> Option<Vec<Question>> {
 /// The checksum that a program prints after asking the questions once, by the
 /// second router's answers.
 pub fn checksum(questions: &[Question]) -> u64 {
+    checksum_in(Mode::Plain, questions)
+}
+
+/// The same with all questions in one mode.
+pub fn checksum_in(mode: Mode, questions: &[Question]) -> u64 {
     let mut sum = 0;
     let mut mix = |value: u32| sum = (sum * 31 + u64::from(value)) % 1_000_003;
-    for answer in questions.iter().filter_map(Question::answer) {
+    for answer in questions.iter().filter_map(|question| question.answer_in(mode)) {
         match answer {
             Err(code) => [u32::from(code.number()), 0, 0, 0].into_iter().for_each(&mut mix),
             Ok(wire) => {
@@ -136,8 +158,8 @@ pub fn checksum(questions: &[Question]) -> u64 {
 }
 
 /// The runs of the questions' wires on average.
-pub fn average_runs(questions: &[Question]) -> f64 {
-    let wires = questions.iter().filter_map(Question::answer).flatten();
+pub fn average_runs(mode: Mode, questions: &[Question]) -> f64 {
+    let wires = questions.iter().filter_map(|question| question.answer_in(mode)).flatten();
     let all: Vec<usize> = wires.map(|wire| wire.run_count()).collect();
     all.iter().sum::<usize>() as f64 / all.len().max(1) as f64
 }

@@ -57,7 +57,16 @@ impl Pins {
     }
 }
 
-/// A record of one of the six plain forms.
+/// Which of the shortest wires a lay or ask wants.
+#[derive(Clone, Copy, PartialEq, Eq, Debug)]
+pub enum Mode {
+    /// The first in the order E, N, W, S: kinds 3 and 4.
+    Plain,
+    /// The first of those with the fewest runs: kinds 9 and 8, document 02's order 6.
+    Straight,
+}
+
+/// A record of one of the eight plain forms.
 #[derive(Clone, Copy, PartialEq, Eq, Debug)]
 pub enum Record {
     Bounds { w: i32, h: i32, clearance: i32 },
@@ -66,6 +75,8 @@ pub enum Record {
     Ask { pins: Pins },
     TakeOut { id: u16 },
     Undo,
+    AskStraight { pins: Pins },
+    LayStraight { id: u16, pins: Pins },
 }
 
 impl Record {
@@ -86,6 +97,8 @@ impl Record {
             (4, 0, _) => Some(Record::Ask { pins }),
             (5, id @ 1.., [0, 0, 0, 0]) => Some(Record::TakeOut { id }),
             (6, 0, [0, 0, 0, 0]) => Some(Record::Undo),
+            (8, 0, _) => Some(Record::AskStraight { pins }),
+            (9, id @ 1.., _) => Some(Record::LayStraight { id, pins }),
             _ => None,
         }
     }
@@ -94,7 +107,35 @@ impl Record {
     pub fn pins(&self) -> Option<Pins> {
         match *self {
             Record::Lay { pins, .. } | Record::Ask { pins } => Some(pins),
+            Record::LayStraight { pins, .. } | Record::AskStraight { pins } => Some(pins),
             _ => None,
+        }
+    }
+
+    /// Is it an ask, in either mode?
+    pub fn is_ask(&self) -> bool {
+        matches!(self, Record::Ask { .. } | Record::AskStraight { .. })
+    }
+
+    /// The id of a lay, in either mode.
+    pub fn laid(&self) -> Option<u16> {
+        match *self {
+            Record::Lay { id, .. } | Record::LayStraight { id, .. } => Some(id),
+            _ => None,
+        }
+    }
+
+    /// Does it want the fewest runs?
+    pub fn is_straight(&self) -> bool {
+        matches!(self, Record::LayStraight { .. } | Record::AskStraight { .. })
+    }
+
+    /// The same lay or ask, but for the fewest runs; other records stay.
+    pub fn straight(self) -> Record {
+        match self {
+            Record::Lay { id, pins } => Record::LayStraight { id, pins },
+            Record::Ask { pins } => Record::AskStraight { pins },
+            other => other,
         }
     }
 
@@ -107,6 +148,8 @@ impl Record {
             Record::Ask { pins } => (4, 0, [pins.s.x, pins.s.y, pins.t.x, pins.t.y]),
             Record::TakeOut { id } => (5, id, [0; 4]),
             Record::Undo => (6, 0, [0; 4]),
+            Record::AskStraight { pins } => (8, 0, [pins.s.x, pins.s.y, pins.t.x, pins.t.y]),
+            Record::LayStraight { id, pins } => (9, id, [pins.s.x, pins.s.y, pins.t.x, pins.t.y]),
         };
         let numbers = numbers.map(|n| u16::try_from(n).expect("a record's number fits 16 bits"));
         Fields { kind, byte1: 0, id, numbers }.join()

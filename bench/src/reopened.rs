@@ -28,17 +28,13 @@ impl Reopened {
     /// Do seams change the answer to a lay, an ask or a keep-out that was just
     /// seen? Other records pay no regard to them.
     pub fn answers_otherwise(&mut self, seen: &Seen) -> bool {
-        let (without, may_matter) = match Record::read(seen.piece) {
-            // An accepted lay did not find its own wire on the board.
-            Some(Record::Lay { id, .. }) if seen.answer.code == Code::Accepted => {
-                (Some(id), has_seams(seen.board))
-            }
-            Some(Record::Lay { .. } | Record::Ask { .. }) => (None, has_seams(seen.board)),
-            Some(Record::Keepout { .. }) => (None, seen.answer.code == Code::MeetsWire),
-            _ => (None, false),
+        let may_matter = match Record::read(seen.piece) {
+            Some(Record::Keepout { .. }) => seen.answer.code == Code::MeetsWire,
+            Some(record) => record.pins().is_some() && has_seams(seen.board),
+            None => false,
         };
         if may_matter {
-            self.follow(seen.board, without);
+            follow(&mut self.board, seen.board, just_laid(seen));
         }
         may_matter && self.board.take(seen.piece) != *seen.answer
     }
@@ -48,7 +44,7 @@ impl Reopened {
         if !has_seams(seen.board) {
             return false;
         }
-        self.follow(seen.board, None);
+        follow(&mut self.board, seen.board, None);
         let open = drawn::judge(&mut self.board, seen.numbers, Slip::None);
         let told = |verdict: &drawn::Verdict| (verdict.finding, verdict.run, verdict.excess);
         told(&open) != told(seen.verdict)
@@ -59,17 +55,23 @@ impl Reopened {
         if !has_seams(board) {
             return false;
         }
-        self.follow(board, None);
+        follow(&mut self.board, board, None);
         Crowd::of(&mut self.board, crowd::slip::Slip::None).as_ref() != Some(sheet)
     }
+}
 
-    /// Takes over the items of a board without the one of an id, unless they stand
-    /// here already.
-    fn follow(&mut self, board: &Board, without: Option<u16>) {
-        let same_size = self.board.frame() == board.frame();
-        if !(same_size && self.board.items().eq(items_without(board, without))) {
-            self.board.stand(board.frame().copied(), items_without(board, without));
-        }
+/// The wire that a lay has just brought onto the board, which it did not find there.
+pub fn just_laid(seen: &Seen) -> Option<u16> {
+    let laid = Record::read(seen.piece).and_then(|record| record.laid());
+    laid.filter(|_| seen.answer.code == Code::Accepted)
+}
+
+/// Takes over the items of a board without the one of an id, unless they stand on the
+/// follower already.
+pub fn follow(follower: &mut Board, board: &Board, without: Option<u16>) {
+    let same_size = follower.frame() == board.frame();
+    if !(same_size && follower.items().eq(items_without(board, without))) {
+        follower.stand(board.frame().copied(), items_without(board, without));
     }
 }
 

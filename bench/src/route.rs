@@ -9,6 +9,7 @@ use crate::fault::Fault;
 use crate::geometry::{Point, Rect};
 use crate::item::{Frame, Item, Sort};
 use crate::limits::UNIT_SEARCH_NODES;
+use crate::record::{Mode, Pins};
 use crate::unit::UnitMap;
 use crate::wide::WideMap;
 use crate::wire::Wire;
@@ -128,15 +129,28 @@ impl Router {
     }
 
     /// The answered wire between two different nodes that are not blocked.
+    pub fn find(&mut self, frame: &Frame, pins: Pins, mode: Mode) -> Option<Wire> {
+        match mode {
+            Mode::Plain => self.shortest(frame, pins.s, pins.t),
+            Mode::Straight => self.straightest(frame, pins.s, pins.t),
+        }
+    }
+
+    /// The first of the shortest wires.
     pub fn shortest(&mut self, frame: &Frame, s: Point, t: Point) -> Option<Wire> {
         if self.by_units(frame) {
             return self.unit_map(frame).shortest(s, t);
         }
-        if self.wide_stale {
-            self.wide.lay_out(frame, &self.blocks, &self.cover, self.fault);
-            self.wide_stale = false;
+        self.wide_map(frame).shortest(s, t)
+    }
+
+    /// The first of the shortest wires with the fewest runs.
+    pub fn straightest(&mut self, frame: &Frame, s: Point, t: Point) -> Option<Wire> {
+        let fault = self.fault;
+        if self.by_units(frame) {
+            return self.unit_map(frame).straightest(s, t, fault);
         }
-        self.wide.shortest(s, t)
+        self.wide_map(frame).straightest(s, t, fault)
     }
 
     fn by_units(&self, frame: &Frame) -> bool {
@@ -153,5 +167,13 @@ impl Router {
             self.unit_stale = false;
         }
         &mut self.unit
+    }
+
+    fn wide_map(&mut self, frame: &Frame) -> &mut WideMap {
+        if self.wide_stale {
+            self.wide.lay_out(frame, &self.blocks, &self.cover, self.fault);
+            self.wide_stale = false;
+        }
+        &mut self.wide
     }
 }

@@ -1,5 +1,7 @@
 //! Counts what the records of a file come to.
 
+mod straight;
+
 use std::fmt;
 use std::io::{self, Read, Write};
 
@@ -11,6 +13,7 @@ use crate::limits::{MAX_RUNS, MAX_SIDE};
 use crate::record::Record;
 use crate::reopened::Reopened;
 use crate::sheet::{self, Last, Seen, Stopped};
+pub use straight::Straight;
 
 #[derive(Clone, Default)]
 pub struct Tally {
@@ -33,6 +36,7 @@ pub struct Tally {
     pub detours: usize,
     /// Accepted wires by their number of runs.
     pub runs: [usize; MAX_RUNS + 1],
+    pub straight: Straight,
     /// Asks, accepted or not, on boards of the largest size.
     pub widest_asks: usize,
     pub cut: bool,
@@ -58,10 +62,12 @@ impl Tally {
         mut watch: impl FnMut(usize),
     ) -> Result<Tally, Stopped> {
         let (mut tally, mut reopened) = (Tally::default(), Reopened::default());
+        let mut follower = Board::default();
         let last = sheet::print(input, output, Board::default(), |seen| {
             tally.count(seen);
             tally.count_seams(seen, &mut reopened);
             watch(seen.number);
+            tally.straight.count(seen, &mut follower);
         })?;
         tally.cut = last == Last::Cut;
         Ok(tally)
@@ -81,7 +87,7 @@ impl Tally {
             self.runs[wire.run_count()] += 1;
         }
         let widest = seen.board.frame().is_some_and(|f| f.w == MAX_SIDE && f.h == MAX_SIDE);
-        if widest && matches!(record, Some(Record::Ask { .. })) {
+        if widest && record.is_some_and(|record| record.is_ask()) {
             self.widest_asks += 1;
         }
     }
@@ -91,7 +97,7 @@ impl Tally {
             match seen.answer.code {
                 Code::MeetsWire => self.closing_seams += 1,
                 _ => {
-                    let ask = matches!(Record::read(seen.piece), Some(Record::Ask { .. }));
+                    let ask = Record::read(seen.piece).is_some_and(|record| record.is_ask());
                     self.changed_by_seams += 1;
                     self.asks_changed += usize::from(ask);
                 }
@@ -120,6 +126,7 @@ impl Tally {
         sum(&mut self.in_keepout, &other.in_keepout);
         sum(&mut self.near_wire, &other.near_wire);
         sum(&mut self.runs, &other.runs);
+        self.straight.add(&other.straight);
         self.in_both += other.in_both;
         self.near_several += other.near_several;
         self.changed_by_seams += other.changed_by_seams;
@@ -173,6 +180,7 @@ impl fmt::Display for Tally {
             share(self.changed_by_seams, self.records()),
             self.asks_changed
         )?;
+        write!(f, "{}", self.straight)?;
         writeln!(f, "asks on {MAX_SIDE} x {MAX_SIDE}: {}", self.widest_asks)?;
         for (runs, count) in self.runs.iter().enumerate().filter(|(_, count)| **count > 0) {
             writeln!(f, "{runs} runs: {count}")?;

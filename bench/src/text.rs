@@ -15,13 +15,15 @@ struct Form {
 
 const ID: &str = "id";
 
-const FORMS: [Form; 6] = [
+const FORMS: [Form; 8] = [
     Form { word: "bounds", kind: 1, names: &["W", "H", "clearance"] },
     Form { word: "keepout", kind: 2, names: &[ID, "x0", "y0", "x1", "y1"] },
     Form { word: "lay", kind: 3, names: &[ID, "sx", "sy", "tx", "ty"] },
     Form { word: "ask", kind: 4, names: &["sx", "sy", "tx", "ty"] },
     Form { word: "takeout", kind: 5, names: &[ID] },
     Form { word: "undo", kind: 6, names: &[] },
+    Form { word: "askstraight", kind: 8, names: &["sx", "sy", "tx", "ty"] },
+    Form { word: "laystraight", kind: 9, names: &[ID, "sx", "sy", "tx", "ty"] },
 ];
 
 /// The word of a line that gives a record byte by byte, in hexadecimal.

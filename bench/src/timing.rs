@@ -1,4 +1,5 @@
-//! Times the proved router beside the peer, on the question files.
+//! Times the proved router beside the peer, on the question files: for the wires of
+//! kind 4, and for those of kind 8.
 
 use std::fs;
 use std::io::Write;
@@ -8,7 +9,8 @@ use std::time::{Duration, Instant};
 
 use crate::launch::Way;
 use crate::peer::bench_folder;
-use crate::question::{average_runs, checksum, file, read, Question};
+use crate::question::{average_runs, checksum_in, file_in, read, Question};
+use crate::record::Mode;
 use crate::stopwatch::{self, busy_note, Laps, Pair, TURNS};
 
 /// How long a run shall take, on average over the two programs.
@@ -23,34 +25,61 @@ pub struct Times {
     pub spread: f64,
 }
 
+/// Questions that are all asked in one mode.
+struct Asked<'a> {
+    mode: Mode,
+    questions: &'a [Question],
+}
+
 pub fn head(way: &Way) -> String {
-    let columns = "file    questions  average runs       peer     proved   ratio\n";
+    let columns = "                     kind 4                         kind 8\n\
+                   file    questions    runs    peer  proved  ratio    \
+                   runs    peer  proved  ratio   8 : 4\n";
     stopwatch::head(way, "question") + columns
 }
 
-/// The line of the table for one of the question files.
+/// The line of the table for one of the question files: in either mode the runs of a
+/// wire on average, the times and the program's over the peer's; then the program's
+/// for kind 8 over its time for kind 4.
 pub fn row(name: &str, pair: &Pair, run: Duration) -> Result<String, String> {
     let path = bench_folder().join("questions").join(name).with_extension("q");
     let bytes = fs::read(&path).map_err(|error| format!("no {}: {error}", path.display()))?;
     let questions =
         read(&bytes).ok_or_else(|| format!("{} is no question file", path.display()))?;
-    let times = times(pair, &questions, run).map_err(|what| format!("{name}: {what}"))?;
-    let Times { peer, program, spread } = times;
+    let [plain, straight] = [(Mode::Plain, 4), (Mode::Straight, 8)].map(|(mode, kind)| {
+        let times = times(pair, mode, &questions, run);
+        times.map_err(|what| format!("{name}, kind {kind}: {what}"))
+    });
+    let (plain, straight) = (plain?, straight?);
     Ok(format!(
-        "{name:<8}{:>9}{:>14.1}{peer:>11.1}{program:>11.1}{:>8.2}{}\n",
+        "{name:<8}{:>9}{}{}{:>8.2}{}\n",
         questions.len(),
-        average_runs(&questions),
-        program / peer,
-        busy_note(spread)
+        plain.columns(average_runs(Mode::Plain, &questions)),
+        straight.columns(average_runs(Mode::Straight, &questions)),
+        straight.program / plain.program,
+        busy_note(plain.spread.max(straight.spread))
     ))
 }
 
-pub fn times(pair: &Pair, questions: &[Question], run: Duration) -> Result<Times, String> {
-    check_answers(pair, questions)?;
-    let reps = reps(pair, questions, run)?;
+impl Times {
+    fn columns(&self, runs: f64) -> String {
+        let Times { peer, program, .. } = self;
+        format!("{runs:>8.1}{peer:>8.1}{program:>8.1}{:>7.2}", program / peer)
+    }
+}
+
+pub fn times(
+    pair: &Pair,
+    mode: Mode,
+    questions: &[Question],
+    run: Duration,
+) -> Result<Times, String> {
+    let asked = Asked { mode, questions };
+    check_answers(pair, &asked)?;
+    let reps = reps(pair, &asked, run)?;
     let (mut peer, mut program) = (Laps::default(), Laps::default());
     for _ in 0..TURNS {
-        let [one, other] = both(pair, questions, reps)?;
+        let [one, other] = both(pair, &asked, reps)?;
         peer.add(one.as_secs_f64());
         program.add(other.as_secs_f64());
     }
@@ -62,12 +91,18 @@ pub fn times(pair: &Pair, questions: &[Question], run: Duration) -> Result<Times
     })
 }
 
+impl Asked<'_> {
+    fn file(&self, reps: u16) -> Vec<u8> {
+        file_in(self.mode, self.questions, reps)
+    }
+}
+
 /// Are the answers of both those of the second router? A wrong answer may
 /// be fast.
-fn check_answers(pair: &Pair, questions: &[Question]) -> Result<(), String> {
-    let expected = format!("{}\n", checksum(questions));
+fn check_answers(pair: &Pair, asked: &Asked) -> Result<(), String> {
+    let expected = format!("{}\n", checksum_in(asked.mode, asked.questions));
     for path in [&pair.peer, &pair.program] {
-        let (_, told) = timed(path, &file(questions, 1))?;
+        let (_, told) = timed(path, &asked.file(1))?;
         if told != expected {
             let (told, expected) = (told.trim_end(), expected.trim_end());
             let path = path.display();
@@ -78,10 +113,10 @@ fn check_answers(pair: &Pair, questions: &[Question]) -> Result<(), String> {
 }
 
 /// How often the questions are asked for runs of about that long.
-fn reps(pair: &Pair, questions: &[Question], run: Duration) -> Result<u16, String> {
+fn reps(pair: &Pair, asked: &Asked, run: Duration) -> Result<u16, String> {
     let mut reps = 1_u16;
     loop {
-        let both: Duration = both(pair, questions, reps)?.iter().sum();
+        let both: Duration = both(pair, asked, reps)?.iter().sum();
         if both >= run / 5 || reps >= u16::MAX / 2 {
             let share = 2.0 * run.as_secs_f64() / both.as_secs_f64();
             return Ok((f64::from(reps) * share).clamp(1.0, f64::from(u16::MAX)) as u16);
@@ -91,8 +126,8 @@ fn reps(pair: &Pair, questions: &[Question], run: Duration) -> Result<u16, Strin
 }
 
 /// One run of each, on the same input; they must print the same.
-fn both(pair: &Pair, questions: &[Question], reps: u16) -> Result<[Duration; 2], String> {
-    let input = file(questions, reps);
+fn both(pair: &Pair, asked: &Asked, reps: u16) -> Result<[Duration; 2], String> {
+    let input = asked.file(reps);
     let (peer, told) = timed(&pair.peer, &input)?;
     let (program, also_told) = timed(&pair.program, &input)?;
     if told != also_told {

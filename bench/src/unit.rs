@@ -2,6 +2,10 @@
 //! from s that always takes the first step, in the order E, N, W, S, which
 //! comes nearer to t. That walk is shortest, and no shortest walk is spelled
 //! before it: at each node it takes the first letter any of them can have.
+//! `straight` finds the wires of kinds 8 and 9.
+
+mod astray;
+mod straight;
 
 use crate::cells::Cover;
 use crate::geometry::{Dir, Point, Rect};
@@ -26,6 +30,8 @@ pub struct UnitMap {
     dist: Vec<u32>,
     /// The nodes reached, in the order of their distance.
     queue: Vec<u32>,
+    /// What the straight search counts; nothing is listed between searches.
+    runs: Vec<straight::Runs>,
 }
 
 impl UnitMap {
@@ -118,10 +124,14 @@ impl UnitMap {
     /// The answered wire between two different nodes, if there is one.
     pub fn shortest(&mut self, s: Point, t: Point) -> Option<Wire> {
         let wire = self.spread(t, s).then(|| self.trace(s, t));
+        self.clear();
+        wire
+    }
+
+    fn clear(&mut self) {
         for node in self.queue.drain(..) {
             self.dist[node as usize] = UNSEEN;
         }
-        wire
     }
 
     /// Spreads from t until s is reached; then every node nearer to t than s

@@ -35,6 +35,10 @@
 //! * Order of wires. The trace asks d of the neighbours of the node where it
 //!   stands, E first, then N, W, S, as the unit search does. How it may take
 //!   many equal steps at once is said at `stride`.
+//!
+//! `straight` finds the wires of kinds 8 and 9, by the same rooms and sites.
+
+mod straight;
 
 use std::cmp::Reverse;
 use std::collections::BinaryHeap;

@@ -166,8 +166,9 @@ fn codes_of_a_lay_and_an_ask() {
         ([5, 0, 1, 9], 18),
         ([1, 9, 5, 0], 18),
     ] {
-        assert_eq!(code_on_board(record(3, 9, pins)), code, "lay {pins:?}");
-        assert_eq!(code_on_board(record(4, 0, pins)), code, "ask {pins:?}");
+        for (kind, id) in [(3, 9), (4, 0), (8, 0), (9, 9)] {
+            assert_eq!(code_on_board(record(kind, id, pins)), code, "kind {kind}, {pins:?}");
+        }
     }
 }
 
@@ -232,9 +233,22 @@ fn the_earlier_code_is_given() {
         (ask(10, 9, 50, 9), 18, 12),
         (ask(10, 9, 90, 9), 12, 12),
     ] {
-        let answer = last_code(&[full.clone(), vec![record.clone()]].concat());
-        assert_eq!(answer, code, "{record:?}: {code} before {later}");
+        for record in in_both_modes(record) {
+            let answer = last_code(&[full.clone(), vec![record.clone()]].concat());
+            assert_eq!(answer, code, "{record:?}: {code} before {later}");
+        }
     }
+}
+
+/// A lay or ask as it is, and as kind 9 or 8; any other record alone.
+fn in_both_modes(record: Vec<u8>) -> Vec<Vec<u8>> {
+    let mut both = vec![record; 2];
+    match both[0][0] {
+        3 => both[1][0] = 9,
+        4 => both[1][0] = 8,
+        _ => both.truncate(1),
+    }
+    both
 }
 
 #[test]

@@ -166,8 +166,9 @@ fn a_missing_program_is_told() {
 
 /// The default of half a million records holds each code a thousand times, 11 and
 /// 18 two thousand times with either pin, 20,000 answers that seams change and 500
-/// times 8 by a seam alone. Here a tenth of it is counted; the two longest files,
-/// which are not in it, have fewer blocked pins and seams.
+/// times 8 by a seam alone, 50,000 accepted kinds 8 and 9, 10,000 of them unlike kind
+/// 4's wire, and some dozen where that gets 13. Here a tenth of it is counted; the two
+/// longest files, which are not in it, have fewer blocked pins and seams.
 #[test]
 fn the_mix_of_files_reaches_enough() {
     let records = 50_000;
@@ -187,6 +188,8 @@ fn the_mix_of_files_reaches_enough() {
     }
     assert!(all.in_both >= 300 && all.near_several >= 150, "{all}");
     assert!(all.changed_by_seams >= 2_700 && all.closing_seams >= 150, "{all}");
+    assert!(all.straight.accepted() >= 5_500 && all.straight.unlike >= 2_000, "{all}");
+    assert!(all.straight.past_limit >= 8, "{all}");
 }
 
 #[test]

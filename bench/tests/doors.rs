@@ -101,7 +101,7 @@ fn all_bad_lines_are_told_up_to_twenty() {
         &three,
         1,
         "bench pack: line 2: ask takes 4 numbers (sx sy tx ty), not 1\n\
-         bench pack: line 4: unknown word 'hop'; known are bounds, keepout, lay, ask, takeout, undo, \
+         bench pack: line 4: unknown word 'hop'; known are bounds, keepout, lay, ask, takeout, undo, askstraight, laystraight, \
          bytes, draw, rest\n\
          bench pack: line 5: clearance is 'x', not a number from 0 to 65535\n",
     );

@@ -1,6 +1,7 @@
 //! The generator: what its files reach.
 
 use bench::code::Code;
+use bench::generate::crowd::OWN_STYLES;
 use bench::generate::{Style, DEFAULT_COUNT, STYLES};
 use bench::limits::{MAX_RECORDS, RECORD_BYTES};
 use bench::tally::Tally;
@@ -37,6 +38,23 @@ fn mazes_reach_the_limits() {
     assert!(tally.runs[24] >= 20, "{tally}");
     assert!(tally.code(13) >= 100, "{tally}");
     assert!(tally.code(14) >= 100, "{tally}");
+    // Stairs, where kind 4 has too many runs and kind 8 few.
+    assert!(tally.straight.past_limit >= 25, "{tally}");
+    assert!(5 * tally.straight.unlike >= tally.straight.accepted(), "{tally}");
+}
+
+/// About a third of the lays and asks of each style want the fewest runs.
+#[test]
+fn every_style_has_kinds_8_and_9() {
+    for style in STYLES.iter().chain(&OWN_STYLES) {
+        let mut kinds = [0; 256];
+        let file: Vec<u8> = (0..4).flat_map(|seed| style.file(seed, 700)).collect();
+        file.chunks(RECORD_BYTES).for_each(|piece| kinds[usize::from(piece[0])] += 1);
+        for (straight, plain) in [(kinds[8], kinds[4]), (kinds[9], kinds[3])] {
+            let share = 100 * straight / (straight + plain);
+            assert!((20..=48).contains(&share), "{}: {share} %", style.name);
+        }
+    }
 }
 
 /// With either pin, by either sort of item, and where several are in the way.

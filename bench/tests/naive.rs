@@ -69,8 +69,11 @@ fn planted_faults_are_noticed() {
     ] {
         assert!(first_difference(method, fault).is_some(), "{method:?} {fault:?} went unnoticed");
     }
-    for fault in Fault::OF_PINS {
+    for fault in Fault::OF_PINS.into_iter().chain(Fault::OF_TURNS) {
         assert!(first_difference(Method::Unit, fault).is_some(), "{fault:?} went unnoticed");
+    }
+    for fault in Fault::OF_TURNS.into_iter().skip(3) {
+        assert!(first_difference(Method::Wide, fault).is_some(), "{fault:?} went unnoticed");
     }
 }
 

@@ -12,8 +12,9 @@ use bench::code::Code;
 use bench::fault::Fault;
 use bench::geometry::{Point, Rect};
 use bench::peer::{bench_folder, Peer};
-use bench::question::{average_runs, checksum, file, read, Question, Row};
+use bench::question::{average_runs, checksum_in, file, file_in, read, Question, Row};
 use bench::questions::KINDS;
+use bench::record::Mode;
 use bench::rng::Rng;
 use bench::stopwatch::Pair;
 use bench::timing;
@@ -39,7 +40,12 @@ fn spoiled(name: &str, piece: &str, by: &str) -> PathBuf {
 }
 
 fn agrees(program: &Path, questions: &[Question]) -> bool {
-    printed(program, &file(questions, 1)) == Some(format!("{}\n", checksum(questions)))
+    agrees_in(Mode::Plain, program, questions)
+}
+
+fn agrees_in(mode: Mode, program: &Path, questions: &[Question]) -> bool {
+    let expected = format!("{}\n", checksum_in(mode, questions));
+    printed(program, &file_in(mode, questions, 1)) == Some(expected)
 }
 
 /// A tiny board with anything on it: boxes that overlap, have no area or reach
@@ -117,7 +123,9 @@ fn the_files_are_worth_asking() {
     for (name, blocks) in [("mid", 20), ("large", 46), ("maze", 46), ("bricks", 46)] {
         let questions = questions_of(name);
         assert!((20..=40).contains(&questions.len()), "{name}");
-        assert!(average_runs(&questions) >= 8.0, "{name}");
+        assert!(average_runs(Mode::Plain, &questions) >= 8.0, "{name}");
+        let runs = |mode| average_runs(mode, &questions);
+        assert!(runs(Mode::Straight) < runs(Mode::Plain), "{name}");
         for question in &questions {
             let wire = question.answer().expect("good pins").expect("a wire");
             assert!(wire.detour() > 0 && question.rows.len() == blocks, "{name}");
@@ -144,11 +152,13 @@ fn a_file_that_is_not_whole_is_not_read() {
 
 #[test]
 fn the_peer_agrees_with_the_second_router() {
-    for kind in &KINDS {
-        assert!(agrees(sound(), &questions_of(kind.name)), "{}", kind.name);
-    }
-    for (number, questions) in odd_files().iter().enumerate() {
-        assert!(agrees(sound(), questions), "odd file {number}");
+    for mode in [Mode::Plain, Mode::Straight] {
+        for kind in &KINDS {
+            assert!(agrees_in(mode, sound(), &questions_of(kind.name)), "{}", kind.name);
+        }
+        for (number, questions) in odd_files().iter().enumerate() {
+            assert!(agrees_in(mode, sound(), questions), "odd file {number}, {mode:?}");
+        }
     }
 }
 
@@ -188,6 +198,23 @@ fn planted_differences_are_noticed() {
     }
 }
 
+/// A program that takes no notice of the mode, and one to which turns cost nothing,
+/// are sound for kind 4 and noticed for kind 8, on each of the files.
+#[test]
+fn planted_differences_of_kind_8_are_noticed() {
+    let answers = "static void answer(const Question *q, Answer *a)\n{";
+    let plainly = "static void answer(const Question *asked, Answer *a)\n{\n\
+                   Question plain = *asked, *q = &plain; plain.straight = 0;";
+    let modeless = spoiled("modeless", answers, plainly);
+    let turns = spoiled("turns", "TURN = 1", "TURN = 0");
+    for questions in KINDS.iter().map(|kind| questions_of(kind.name)) {
+        for program in [&modeless, &turns] {
+            assert!(agrees(program, &questions));
+            assert!(!agrees_in(Mode::Straight, program, &questions));
+        }
+    }
+}
+
 /// The peer with another order of directions.
 fn misordered() -> &'static Path {
     static BINARY: OnceLock<PathBuf> = OnceLock::new();
@@ -207,7 +234,7 @@ fn a_difference_ends_the_timing() {
     let output = bench_time(misordered());
     let told = String::from_utf8_lossy(&output.stderr).into_owned();
     assert!(
-        told.starts_with("bench time: mid: ") && told.contains("the second router has"),
+        told.starts_with("bench time: mid, kind 4: ") && told.contains("the second router has"),
         "{told}"
     );
     assert_eq!(output.status.code(), Some(1));
@@ -220,7 +247,8 @@ fn a_late_difference_ends_the_timing() {
     let pair = Pair { peer: sound().to_path_buf(), program };
     // So long that even on a busy machine once is not enough. It ends at twice.
     let run = Duration::from_secs(30);
-    let told = timing::times(&pair, &questions_of("mid"), run).err().expect("a difference");
+    let told = timing::times(&pair, Mode::Plain, &questions_of("mid"), run).err();
+    let told = told.expect("a difference");
     assert!(told.starts_with("with reps "), "{told}");
 }
 
@@ -245,8 +273,11 @@ fn a_row_of_the_table() {
     let pair = Pair { peer: sound().to_path_buf(), program: sound().to_path_buf() };
     let row = timing::row("mid", &pair, Duration::from_millis(20)).expect("a row");
     let words: Vec<&str> = row.split_whitespace().collect();
-    assert!(words.len() >= 6, "{row}");
+    assert!(words.len() >= 11, "{row}");
     assert_eq!((words[0], words[1]), ("mid", "32"));
-    let ratio: f64 = words[5].parse().expect("a ratio");
-    assert!(ratio > 0.0, "{row}");
+    // Of kind 4, of kind 8, and of the two.
+    for place in [5, 9, 10] {
+        let ratio: f64 = words[place].parse().expect("a ratio");
+        assert!(ratio > 0.0, "{row}");
+    }
 }

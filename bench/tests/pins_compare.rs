@@ -1,5 +1,5 @@
-//! What is told of blocked pins, and seams, compared: programs that have them wrong
-//! are found on the random files, and shrunk to the few records that show it.
+//! What is told of blocked pins, seams, and fewer turns, compared: programs that have
+//! them wrong are found on the random files, and shrunk to the few records that show it.
 
 mod common;
 
@@ -35,6 +35,8 @@ fn wrong_programs_are_found_and_shrunk() {
         ("seams-ids", "cells_held(&b[j], x, y) != 0", "cells_held(&b[j], x, y) == 15", 4),
         // Bounds, a keep-out, a wire along it, and a keep-out on the other side.
         ("seams-wires", "|| closes_over_wire(&area)", "", 4),
+        // Bounds, an item, and a kind 8 or 9 round it.
+        ("turns-mode", "board.straight = r->kind >= ASK_STRAIGHT", "board.straight = 0", 3),
     ] {
         let program = spoiled(Peer::Sheet, name, piece, by);
         let report = compared(&Rival::new(&program).expect("a program"));

@@ -91,6 +91,7 @@ fn planted_differences_are_noticed() {
         ("sheet-seams", "    close_seams(q);\n", ""),
         ("sheet-round", "return held == 15 &&", "return 0 &&"),
         ("sheet-corner", "= held == 15;", "= held >= 7;"),
+        ("sheet-turns", "TURN = 1", "TURN = 0"),
         (
             "sheet-blocks",
             "> MAX_BLOCKS)\n        return TOO",

@@ -15,6 +15,8 @@ fn each_form() {
         ("ask 1 1 9 65535", ask(1, 1, 9, 65_535)),
         ("takeout 258", takeout(258)),
         ("undo", undo()),
+        ("askstraight 1 1 9 65535", record(8, 0, [1, 1, 9, 65_535])),
+        ("laystraight 7 1 5 8 5", record(9, 7, [1, 5, 8, 5])),
     ] {
         assert_eq!(pack(line.as_bytes()), Ok(record.clone()), "{line}");
         assert_eq!(unpack(&record), format!("{line}\n"));
@@ -33,6 +35,9 @@ fn malformed_records_are_given_as_bytes() {
     let byte_1 = [&[6, 1][..], &[0; 10]].concat();
     for (record, line) in [
         (record(9, 0, [0; 4]), "bytes 09 00 00 00 00 00 00 00 00 00 00 00\n"),
+        (record(7, 1, [0; 4]), "bytes 07 00 01 00 00 00 00 00 00 00 00 00\n"),
+        (record(8, 1, [0; 4]), "bytes 08 00 01 00 00 00 00 00 00 00 00 00\n"),
+        (record(10, 0, [0; 4]), "bytes 0a 00 00 00 00 00 00 00 00 00 00 00\n"),
         (byte_1, "bytes 06 01 00 00 00 00 00 00 00 00 00 00\n"),
         (record(5, 1, [0, 0, 0, 0xabc]), "bytes 05 00 01 00 00 00 00 00 00 00 bc 0a\n"),
         (record(1, 0, [1, 1, 1, 1]), "bytes 01 00 00 00 01 00 01 00 01 00 01 00\n"),
@@ -50,6 +55,8 @@ fn bad_lines_say_where_and_what() {
         ("Undo", 1, "unknown word 'Undo'"),
         ("#\n\nbounds 10 10", 3, "bounds takes 3 numbers (W H clearance), not 2"),
         ("ask 1 2 3 4 5", 1, "ask takes 4 numbers (sx sy tx ty), not 5"),
+        ("askstraight 1", 1, "askstraight takes 4 numbers (sx sy tx ty), not 1"),
+        ("laystraight 1 2 3 4", 1, "laystraight takes 5 numbers (id sx sy tx ty), not 4"),
         ("undo 0", 1, "undo takes no numbers, not 1"),
         ("takeout", 1, "takeout takes 1 number (id), not 0"),
         ("takeout 65536", 1, "id is '65536', not a number from 0 to 65535"),
@@ -78,7 +85,7 @@ fn any_bytes_come_back() {
     for _ in 0..3_000 {
         let length = rng.range(0, 60) as usize;
         // Small bytes make many well-formed records, any bytes few.
-        let most = rng.pick(&[0, 1, 6, 255]);
+        let most = rng.pick(&[0, 1, 9, 255]);
         let file: Vec<u8> = (0..length).map(|_| rng.range(0, most) as u8).collect();
         assert_eq!(pack(unpack(&file).as_bytes()), Ok(file));
     }

@@ -30,6 +30,8 @@ struct Look {
     w: (i32, i32),
     h: (i32, i32),
     boards: u64,
+    /// One in so many pairs of pins is asked for the fewest runs too.
+    straight: usize,
 }
 
 /// A coordinate of a block, which may lie outside the board.
@@ -100,13 +102,15 @@ fn some_apart(rng: &mut Rng, frame: &Frame, blocks: &[Rect]) -> Vec<Rect> {
 }
 
 /// How often the two searches were asked, how often a wire was found with and
-/// without a detour, and how often on a board with seams.
+/// without a detour, how often on a board with seams, and how often kind 8's wire was
+/// not kind 4's.
 #[derive(Default, Debug)]
 struct Counts {
     asked: usize,
     straight: usize,
     detours: usize,
     with_seams: usize,
+    unlike: usize,
 }
 
 /// Compares the two searches on random boards; the fault is the wide search's.
@@ -124,6 +128,14 @@ fn compare(look: Look, fault: Fault) -> Result<Counts, String> {
             if by_unit != by_wide {
                 return Err(format!("board {seed}, {s:?} to {t:?}: {by_unit:?}, {by_wide:?}"));
             }
+            if counts.asked % look.straight == 0 {
+                let straight = unit.straightest(s, t, Fault::None);
+                let by_wide = wide.straightest(s, t, fault);
+                if straight != by_wide {
+                    return Err(format!("board {seed}, {s:?} to {t:?}: {straight:?}, {by_wide:?}"));
+                }
+                counts.unlike += usize::from(by_unit != straight);
+            }
             counts.asked += 1;
             counts.with_seams += usize::from(seams > 0);
             match by_unit.map(|wire| wire.detour()) {
@@ -136,17 +148,17 @@ fn compare(look: Look, fault: Fault) -> Result<Counts, String> {
     Ok(counts)
 }
 
-const SMALL: Look = Look { w: (1, 12), h: (1, 12), boards: 60_000 };
-const MIDDLE: Look = Look { w: (13, 90), h: (13, 90), boards: 10_000 };
-const WIDE: Look = Look { w: (300, 700), h: (300, 700), boards: 300 };
-const LIMIT: Look = Look { w: (1_990, 1_999), h: (1_990, 1_999), boards: 20 };
-const STRIP: Look = Look { w: (30_000, 30_000), h: (20, 120), boards: 30 };
+const SMALL: Look = Look { w: (1, 12), h: (1, 12), boards: 60_000, straight: 6 };
+const MIDDLE: Look = Look { w: (13, 90), h: (13, 90), boards: 10_000, straight: 4 };
+const WIDE: Look = Look { w: (300, 700), h: (300, 700), boards: 300, straight: 6 };
+const LIMIT: Look = Look { w: (1_990, 1_999), h: (1_990, 1_999), boards: 20, straight: 16 };
+const STRIP: Look = Look { w: (30_000, 30_000), h: (20, 120), boards: 30, straight: 16 };
 
 fn assert_agreement(look: Look, least: usize) {
     let counts = compare(look, Fault::None).unwrap_or_else(|difference| panic!("{difference}"));
-    let Counts { asked, straight, detours, with_seams } = counts;
+    let Counts { asked, straight, detours, with_seams, unlike } = counts;
     assert!(straight > least && detours > least && asked > straight + detours, "{counts:?}");
-    assert!(with_seams > least, "{counts:?}");
+    assert!(with_seams > least && 2 * look.straight * unlike > least, "{counts:?}");
 }
 
 #[test]
@@ -178,6 +190,13 @@ fn a_search_without_the_inner_sides_is_noticed() {
 }
 
 #[test]
+fn another_order_of_straight_wires_is_noticed() {
+    for look in [SMALL, MIDDLE, WIDE] {
+        assert!(compare(look, Fault::OtherOrder).is_err());
+    }
+}
+
+#[test]
 fn a_search_that_leaves_seams_open_is_noticed() {
     for look in [SMALL, MIDDLE, WIDE] {
         assert!(compare(look, Fault::OpenSeams).is_err());
@@ -190,7 +209,7 @@ fn a_search_that_leaves_seams_open_is_noticed() {
 /// since no block has a side between them. So the unit search on a small board
 /// tells what the wide search must say on one of 30,000.
 fn compare_enlarged(fault: Fault) -> Result<(), String> {
-    let look = Look { w: (20, 40), h: (20, 40), boards: 400 };
+    let look = Look { w: (20, 40), h: (20, 40), boards: 400, straight: 1 };
     let factor = 750;
     let (mut unit, mut wide) = (UnitMap::default(), WideMap::default());
     for seed in 0..look.boards {
@@ -213,6 +232,14 @@ fn compare_enlarged(fault: Fault) -> Result<(), String> {
             let large = wide.shortest(point(s), point(t)).map(|wire| wire.corners().to_vec());
             if small != large {
                 return Err(format!("board {seed}: {small:?}, {large:?}"));
+            }
+            let small: Option<Vec<Point>> = unit
+                .straightest(*s, *t, Fault::None)
+                .map(|wire| wire.corners().iter().map(point).collect());
+            let large = wide.straightest(point(s), point(t), fault);
+            let large = large.map(|wire| wire.corners().to_vec());
+            if small != large {
+                return Err(format!("board {seed}, straight: {small:?}, {large:?}"));
             }
         }
     }

@@ -136,7 +136,8 @@ fn what_is_no_record_is_told() {
     };
     for (piece, why) in [
         (undo()[..5].to_vec(), "a last piece of 5 bytes, not 12"),
-        (record(9, 0, [0; 4]), "kind 9 is none of 1 to 6"),
+        (record(7, 0, [0; 4]), "kind 7 is none of 1 to 6, 8 and 9"),
+        (record(9, 0, [1, 2, 3, 4]), "the id is 0, and kind 9 needs one from 1 to 65535"),
         ([&[6, 3][..], &[0; 10]].concat(), "byte 1 is 3, not 0"),
         (record(3, 0, [1, 2, 3, 4]), "the id is 0, and kind 3 needs one from 1 to 65535"),
         (record(4, 7, [1, 2, 3, 4]), "the id is 7, and kind 4 has none, so 0 belongs there"),

@@ -108,11 +108,15 @@ impl History {
         }
         match Record::read(record) {
             Some(Record::Bounds { .. }) => self.changes.clear(),
-            Some(Record::Keepout { id, .. } | Record::Lay { id, .. }) => {
+            Some(
+                Record::Keepout { id, .. }
+                | Record::Lay { id, .. }
+                | Record::LayStraight { id, .. },
+            ) => {
                 self.added.insert(id, index);
             }
             Some(Record::TakeOut { .. } | Record::Undo) => {}
-            Some(Record::Ask { .. }) | None => return,
+            Some(Record::Ask { .. } | Record::AskStraight { .. }) | None => return,
         }
         self.changes.push(index);
     }

@@ -4,7 +4,7 @@ use super::legend::REACH;
 use super::paper::Paper;
 use crate::item::Item;
 use crate::reach::Reach;
-use crate::record::{Pins, Record};
+use crate::record::Pins;
 use crate::stand::Stand;
 use crate::story::Step;
 use crate::wire::Wire;
@@ -22,10 +22,7 @@ impl Last {
     /// None if the record is neither a lay nor an ask.
     pub fn of(step: &Step) -> Option<Last> {
         let record = step.answered.record()?;
-        let id = match record {
-            Record::Lay { id, .. } => Some(id),
-            _ => None,
-        };
+        let id = record.laid();
         let pins = record.pins()?;
         Some(Last { pins, id, text: step.text(), answered: step.answered.clone() })
     }

@@ -43,8 +43,8 @@ pub fn told(lines: &[Line], printed: &[u8]) -> Result<String, String> {
 
 fn said_of_record(board: &mut Board, bytes: &[u8]) -> Option<String> {
     let code = board.take(bytes).code;
-    let harmless =
-        code == Code::Accepted || matches!(Record::read(bytes), Some(Record::Ask { .. }));
+    let asks = Record::read(bytes).is_some_and(|record| record.is_ask());
+    let harmless = code == Code::Accepted || asks;
     let (number, why) = (code.number(), said_of_pin(code));
     (!harmless).then(|| format!("refused with {number}{why}, so it changes nothing"))
 }

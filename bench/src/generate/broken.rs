@@ -43,7 +43,8 @@ pub fn before_bounds(maker: &mut Maker) {
 
 /// Appends a malformed record.
 fn damaged(maker: &mut Maker) {
-    let mut bytes = plain(maker).bytes();
+    let record = plain(maker);
+    let mut bytes = maker.in_some_mode(record).bytes();
     spoil(maker, &mut bytes);
     maker.put_bytes(&bytes);
 }
@@ -69,7 +70,7 @@ fn spoil(maker: &mut Maker, bytes: &mut RecordBytes) {
     let first_place = if bytes[0] == 1 { 10 } else { 4 };
     let place = maker.rng.range(first_place, RECORD_BYTES as i32 - 1) as usize;
     match maker.rng.range(0, 4) {
-        0 => bytes[0] = maker.rng.pick(&[0, 7, 8, 128, 255]),
+        0 => bytes[0] = maker.rng.pick(&[0, 7, 10, 128, 255]),
         1 => bytes[1] = any,
         2 => {
             let mut fields = Fields::split(bytes).expect("a whole record");

@@ -20,8 +20,13 @@ pub struct Mix {
     pub across: i32,
 }
 
+/// Of a hundred lays and asks, how many are kinds 9 and 8.
+const STRAIGHT: i32 = 34;
+
 pub struct Maker {
     pub rng: Rng,
+    /// Chooses the mode of lays and asks, so that all else is as `rng` has it.
+    modes: Rng,
     pub board: Board,
     file: Vec<u8>,
     left: usize,
@@ -33,6 +38,7 @@ impl Maker {
     pub fn new(seed: u64) -> Maker {
         Maker {
             rng: Rng::new(seed),
+            modes: Rng::new(!seed),
             board: Board::default(),
             file: Vec::new(),
             left: 0,
@@ -60,14 +66,28 @@ impl Maker {
 
     /// Appends a record, unless the file is full.
     pub fn put(&mut self, record: Record) {
+        let record = self.in_some_mode(record);
         self.put_bytes(&record.bytes());
+    }
+
+    /// Some of the lays and asks want the fewest runs.
+    pub fn in_some_mode(&mut self, record: Record) -> Record {
+        let straight = record.pins().is_some() && self.modes.chance(STRAIGHT);
+        if straight {
+            record.straight()
+        } else {
+            record
+        }
     }
 
     pub fn put_bytes(&mut self, bytes: &RecordBytes) {
         if self.left > 0 {
             self.left -= 1;
             self.file.extend_from_slice(bytes);
-            self.board.take(bytes);
+            // An ask leaves the board as it is, so it need not be answered here.
+            if !Record::read(bytes).is_some_and(|record| record.is_ask()) {
+                self.board.take(bytes);
+            }
         }
     }
 

@@ -1,6 +1,7 @@
-//! Boards at the limits: wires of about 24 runs, about 46 blocks.
+//! Boards at the limits: wires of about 24 runs, about 46 blocks; and `stairs`.
 
 use super::maker::{Maker, Mix};
+use super::stairs::stairs;
 use crate::geometry::{Point, Rect};
 use crate::limits::{MAX_BLOCKS, MAX_RUNS};
 use crate::record::{Pins, Record};
@@ -14,12 +15,13 @@ const THROUGH: u16 = 60;
 pub fn maze(maker: &mut Maker) {
     // A maze is made from left to right; in half of them x and y are swapped.
     let turned = maker.rng.chance(50);
-    match maker.rng.range(0, 2) {
+    match maker.rng.range(0, 3) {
         0 => {
             let walls = turns(maker, MAX_BLOCKS as i32);
             comb(maker, turned, walls);
         }
         1 => courses(maker, turned),
+        2 => stairs(maker),
         _ => posts(maker, turned),
     }
     maker.stir(&MIX, 15);

@@ -18,8 +18,10 @@ pub fn words(answered: &Answered) -> String {
             format!("a new board, {w} \u{d7} {h}, clearance {clearance}")
         }
         Some(Record::Keepout { .. }) => format!("added; {}", blocks(after)),
-        Some(Record::Lay { .. }) => format!("laid: {found}; {}", blocks(after)),
-        Some(Record::Ask { .. }) => format!("found: {found}"),
+        Some(Record::Lay { .. } | Record::LayStraight { .. }) => {
+            format!("laid: {found}; {}", blocks(after))
+        }
+        Some(Record::Ask { .. } | Record::AskStraight { .. }) => format!("found: {found}"),
         Some(Record::TakeOut { .. }) => format!("taken out: {}", moved(before, after)),
         Some(Record::Undo) => {
             format!(

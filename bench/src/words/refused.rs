@@ -9,6 +9,7 @@ use crate::proved::Told;
 use crate::reach::Reach;
 use crate::record::{Fields, Pins, Record};
 use crate::stand::Stand;
+use crate::wire::Wire;
 
 /// The reason without its number.
 pub fn words(answered: &Answered) -> String {
@@ -22,15 +23,20 @@ pub fn words(answered: &Answered) -> String {
     };
     match (answered.said.code, record) {
         (3, Record::Bounds { w, h, clearance }) => out_of_range(w, h, clearance),
-        (4, Record::Keepout { id, .. } | Record::Lay { id, .. }) => in_use(stand, id),
+        (
+            4,
+            Record::Keepout { id, .. } | Record::Lay { id, .. } | Record::LayStraight { id, .. },
+        ) => in_use(stand, id),
         (5, Record::TakeOut { id }) => not_in_use(stand, id),
         (6, Record::Keepout { rect, .. }) => bad_rectangle(&frame, rect),
         (7, Record::Keepout { rect, .. }) => overlapped(stand, rect),
         (8, Record::Keepout { rect, .. }) => wires_in_the_way(stand, &frame, rect),
         (15, _) => "there is no kept change to undo".to_string(),
         (14, Record::Keepout { .. }) => too_many_blocks(stand, 1),
-        (_, Record::Lay { pins, .. } | Record::Ask { pins }) => of_pins(answered, pins),
-        (code, _) => format!("code {code}"),
+        (code, _) => match record.pins() {
+            Some(pins) => of_pins(answered, pins),
+            None => format!("code {code}"),
+        },
     }
 }
 
@@ -39,14 +45,14 @@ fn no_record(piece: &[u8]) -> String {
     let Some(Fields { kind, byte1, id, numbers }) = Fields::split(piece) else {
         return format!("a last piece of {}, not {RECORD_BYTES}", count(piece.len(), "byte"));
     };
-    let with_id = matches!(kind, 2 | 3 | 5);
+    let with_id = matches!(kind, 2 | 3 | 5 | 9);
     let unused = match kind {
         1 => &numbers[3..],
         5 | 6 => &numbers[..],
         _ => &[],
     };
-    if !(1..=6).contains(&kind) {
-        format!("kind {kind} is none of 1 to 6")
+    if !matches!(kind, 1..=6 | 8 | 9) {
+        format!("kind {kind} is none of 1 to 6, 8 and 9")
     } else if byte1 != 0 {
         format!("byte 1 is {byte1}, not 0")
     } else if with_id && id == 0 {
@@ -147,13 +153,22 @@ fn of_pins(answered: &Answered, pins: Pins) -> String {
             format!("pin {pin} {} is within {clearance} of wire {id}", point(pins.numbered(pin)))
         }
         (12, _) => no_wire(stand, pins, answered.reach()),
-        (13, _) => too_many_runs(stand, pins),
+        (13, _) => too_many_runs(answered, pins),
         (14, _) => {
-            let wire = stand.board().shortest(pins.s, pins.t);
+            let wire = wire_of(answered, pins);
             let runs = wire.map_or(0, |wire| wire.run_count());
             format!("the wire has {}: {}", count(runs, "run"), too_many_blocks(stand, runs))
         }
         (code, _) => format!("code {code}"),
+    }
+}
+
+/// The wire that is too long for the record or the board, by the record's mode.
+fn wire_of(answered: &Answered, pins: Pins) -> Option<Wire> {
+    let mut board = answered.before.board();
+    match answered.record().is_some_and(|record| record.is_straight()) {
+        true => board.straightest(pins.s, pins.t),
+        false => board.shortest(pins.s, pins.t),
     }
 }
 
@@ -214,8 +229,8 @@ fn openers(stand: &Stand, Pins { s, t }: Pins) -> Vec<String> {
     opening.map(|(id, item)| name(*id, item)).collect()
 }
 
-fn too_many_runs(stand: &Stand, Pins { s, t }: Pins) -> String {
-    match stand.board().shortest(s, t) {
+fn too_many_runs(answered: &Answered, pins: Pins) -> String {
+    match wire_of(answered, pins) {
         Some(wire) => format!(
             "the shortest wire has {} runs, and {MAX_RUNS} are the most; its length is {}",
             wire.run_count(),

@@ -47,6 +47,14 @@ pub fn undo() -> Vec<u8> {
     record(6, 0, [0; 4])
 }
 
+pub fn ask_straight(sx: u16, sy: u16, tx: u16, ty: u16) -> Vec<u8> {
+    record(8, 0, [sx, sy, tx, ty])
+}
+
+pub fn lay_straight(id: u16, sx: u16, sy: u16, tx: u16, ty: u16) -> Vec<u8> {
+    record(9, id, [sx, sy, tx, ty])
+}
+
 /// The naive router looks at every node; larger boards are not for it.
 const MOST_NODES: i32 = 4_000;
 

@@ -3,14 +3,17 @@
 //! keeps whole lists of items to go back to, tests every unit edge against
 //! every block, and finds wires by comparing spelled words. `seams` writes down the
 //! cells of keep-outs. `pins` says what is in the way of a pin, node by node.
-//! `drawn` judges wires drawn by hand, step by step. `crowd` counts open edges.
+//! `drawn` judges wires drawn by hand, step by step. `crowd` counts open edges. `turns`
+//! spells wires with few runs.
 
 pub mod crowd;
 pub mod drawn;
 mod pins;
 mod seams;
+mod turns;
 
 use seams::Covered;
+use turns::straightest_word;
 
 type Node = (i64, i64);
 
@@ -71,8 +74,8 @@ impl Naive {
         let well_formed = piece[1] == 0
             && match kind {
                 1 => id == 0 && zero(&[d]),
-                2 | 3 => id != 0,
-                4 => id == 0,
+                2 | 3 | 9 => id != 0,
+                4 | 8 => id == 0,
                 5 => id != 0 && zero(&[a, b, c, d]),
                 6 => id == 0 && zero(&[a, b, c, d]),
                 _ => false,
@@ -86,8 +89,11 @@ impl Naive {
         match kind {
             1 => self.begin(a, b, c),
             2 => self.keep_out(id, (a, b), (c, d)),
-            3 => self.lay(id, (a, b), (c, d)),
-            4 => self.find((a, b), (c, d)).map(|word| shown((a, b), (c, d), &word)),
+            3 | 9 => self.lay(id, (a, b), (c, d), kind == 9),
+            4 | 8 => {
+                let word = self.find((a, b), (c, d), kind == 8)?;
+                Ok(shown((a, b), (c, d), &word))
+            }
             5 => self.take_out(id),
             _ => self.undo(),
         }
@@ -131,9 +137,9 @@ impl Naive {
         self.add(id, Thing::Keepout(low, high))
     }
 
-    fn lay(&mut self, id: u16, s: Node, t: Node) -> Answer {
+    fn lay(&mut self, id: u16, s: Node, t: Node, straight: bool) -> Answer {
         self.id_is_free(id)?;
-        let word = self.find(s, t)?;
+        let word = self.find(s, t, straight)?;
         self.add(id, Thing::Wire(corners(s, &word)))?;
         Ok(shown(s, t, &word))
     }
@@ -203,7 +209,7 @@ impl Naive {
     }
 
     /// The steps of the answered wire, spelled 0 for E, 1 N, 2 W, 3 S.
-    fn find(&self, s: Node, t: Node) -> Result<Vec<u8>, String> {
+    fn find(&self, s: Node, t: Node, straight: bool) -> Result<Vec<u8>, String> {
         let (w, h, _) = self.bounds.unwrap();
         let off = |p: Node| p.0 > w || p.1 > h;
         if off(s) || off(t) {
@@ -214,7 +220,8 @@ impl Naive {
         }
         self.pins_are_free(s, t)?;
         let steps = open_steps((w, h), &self.blocks(), &self.covered(None));
-        let Some(word) = first_word((w, h), &steps, s, t) else { return no(12) };
+        let spelled = if straight { straightest_word } else { first_word };
+        let Some(word) = spelled((w, h), &steps, s, t) else { return no(12) };
         if corners(s, &word).len() - 1 > 24 {
             return no(13);
         }
@@ -302,6 +309,20 @@ fn lengths(size: Node, steps: &[Step], t: Node) -> Vec<Option<usize>> {
 /// the first word from the node after it.
 fn first_word(size: Node, steps: &[Step], s: Node, t: Node) -> Option<Vec<u8>> {
     let index = |p: Node| (p.1 * (size.0 + 1) + p.0) as usize;
+    let mut words: Vec<Vec<u8>> = vec![Vec::new(); index(size) + 1];
+    for step in shortest_steps(size, steps, s, t)? {
+        let word = [&[step.letter], words[step.to].as_slice()].concat();
+        if words[step.from].is_empty() || word < words[step.from] {
+            words[step.from] = word;
+        }
+    }
+    Some(words.swap_remove(index(s)))
+}
+
+/// The steps that come nearer to t, the last ones of a way first, up to those that are
+/// as far away as s.
+fn shortest_steps(size: Node, steps: &[Step], s: Node, t: Node) -> Option<Vec<&Step>> {
+    let index = |p: Node| (p.1 * (size.0 + 1) + p.0) as usize;
     let length = lengths(size, steps, t);
     let mut by_length: Vec<Vec<&Step>> = vec![Vec::new(); length[index(s)]? + 1];
     for step in steps {
@@ -311,14 +332,7 @@ fn first_word(size: Node, steps: &[Step], s: Node, t: Node) -> Option<Vec<u8>> {
             }
         }
     }
-    let mut words: Vec<Vec<u8>> = vec![Vec::new(); index(size) + 1];
-    for step in by_length.into_iter().flatten() {
-        let word = [&[step.letter], words[step.to].as_slice()].concat();
-        if words[step.from].is_empty() || word < words[step.from] {
-            words[step.from] = word;
-        }
-    }
-    Some(words.swap_remove(index(s)))
+    Some(by_length.concat())
 }
 
 fn corners(s: Node, word: &[u8]) -> Vec<Node> {

@@ -1,7 +1,8 @@
 // Asks the router the questions of a file over and over, so that its time can be held against a peer's.
 //
 // The file is numbers of 16 bits, the low byte first: how many questions, how often to ask them all, then the questions. Each is 238 numbers:
-// W, H, sx, sy, tx, ty, how many blocks, 0, and 46 rows of x0, y0, x1, y1, c. What is printed is a sum over all the answers.
+// W, H, sx, sy, tx, ty, how many blocks, 1 where the fewest runs are asked for and else 0, and 46 rows of x0, y0, x1, y1, c. What is printed
+// is a sum over all the answers.
 use blocks::Blocks;
 use blocks::Found;
 use blocks::Look;
@@ -83,6 +84,16 @@ fn blocks_at(file: &[u8], from: usize) -> Blocks
         y1: column(file, from + 22, n),
         c: column(file, from + 24, n),
     }
+}
+
+// What is asked for.
+fn mode_at(file: &[u8], from: usize) -> Mode
+    requires { ⌜ from ≤ 65216 ⌝ }
+{
+    if word(file, from + 14) == 1 {
+        return Mode::Fewest;
+    }
+    Mode::Plain
 }
 
 // ---- whether the router may be asked
@@ -255,7 +266,7 @@ fn ask(sum: u64, file: &[u8], from: usize) -> u64
     };
     let held = blocks_at(file, from);
     if may_ask(size, held, p) {
-        return mix_answer(sum, find_wire(size, held, p, Mode::Plain));
+        return mix_answer(sum, find_wire(size, held, p, mode_at(file, from)));
     }
     sum
 }

@@ -19,8 +19,8 @@ use Rattle.paper.specs.Laws.Back.{layoutOf, held, one-layout, well-formed}
 use Rattle.paper.specs.Laws.One.{tells-same, one-reply}
 use Rattle.paper.specs.Laws.Says.{Says, says-as}
 use Rattle.paper.specs.Laws.Feeds.{refusing}
-use Rattle.feed.specs.Feeding.{KindIs}
-use Rattle.feed.specs.Laws.Kinds.{kind-read}
+use Rattle.feed.specs.Feeding.{CaseIs}
+use Rattle.feed.specs.Laws.Kinds.{kind-read, Case, of-kind}
 use Rattle.feed.specs.Laws.Met.{refusal}
 use Rattle.index.specs.declared.Index.{Index}
 use Rattle.index.specs.declared.Crowding.{Crowding}
@@ -124,19 +124,23 @@ built-of l i (inr p) n = p .1
 
 -- refused, or an ask
 unfoldable pub LeavesItems : List ℕ → ℕ → Type 0
-LeavesItems bytes code = (¬ (code ≡ 0)) ⊎ (getD bytes 0 0 ≡ 4)
+LeavesItems bytes code = (¬ (code ≡ 0)) ⊎ (getD bytes 0 0 ≡ 4) ⊎ (getD bytes 0 0 ≡ 8)
 
--- an accepted record of kind 4 leaves the layout
-ask-leaves : (l : Layout) (rec : Record) (o : Outcome) → KindIs 4 rec → Does l rec o → o .layout ≡ l
-unfolding KindIs fieldsOf Does
+-- an accepted ask leaves the layout
+ask-leaves : (l : Layout) (rec : Record) (o : Outcome) → CaseIs 3 rec → Does l rec o → o .layout ≡ l
+unfolding CaseIs Does
 ask-leaves l rec o (inl e) d = absurd (subst (λ r. Does l r o) e d)
-ask-leaves l (Bounds s) o (inr k) d = absurd (omega (arith, k .1))
-ask-leaves l (KeepOut i r) o (inr k) d = absurd (omega (arith, k .1))
-ask-leaves l (Lay i p) o (inr k) d = absurd (omega (arith, k .1))
-ask-leaves l (Ask p) o (inr k) d = ap (λ o. o .layout) (d .2)
-ask-leaves l (TakeOut i) o (inr k) d = absurd (omega (arith, k .1))
-ask-leaves l Undo o (inr k) d = absurd (omega (arith, k .1))
+ask-leaves l (Bounds s) o (inr k) d = absurd (omega (arith, k))
+ask-leaves l (KeepOut i r) o (inr k) d = absurd (omega (arith, k))
+ask-leaves l (Lay i q) o (inr k) d = absurd (omega (arith, k))
+ask-leaves l (Ask q) o (inr k) d = ap (λ o. o .layout) (d .2)
+ask-leaves l (TakeOut i) o (inr k) d = absurd (omega (arith, k))
+ask-leaves l Undo o (inr k) d = absurd (omega (arith, k))
 ask-leaves l Malformed o (inr k) d = absurd d
+
+asks : (k : ℕ) → (k ≡ 4) ⊎ (k ≡ 8) → Case k 3
+asks k (inl e) = inl (omega arith, e)
+asks k (inr e) = inr (inl (e, refl))
 
 pub leaves-same : (b : Board) (bytes s s′ : List ℕ) (r : Reply) → Fed b bytes s s′ r → LeavesItems bytes (r .code) → r .board ≡ b
 unfolding LeavesItems Fed
@@ -147,7 +151,7 @@ leaves-same b bytes s s′ r (inr p) (inr k) = go (r .code) refl
     go : (n : ℕ) → r .code ≡ n → r .board ≡ b
     go zero e =
         let a = p .4 .accepted e in
-        a .2 .board-is ∙ ap boardOf (ask-leaves (p .0) (p .1) (a .0) (subst (λ n. KindIs n (p .1)) k (kind-read bytes (p .1) (p .3))) (a .1)) ∙ sym (p .2 .same)
+        a .2 .board-is ∙ ap boardOf (ask-leaves (p .0) (p .1) (a .0) (of-kind (p .1) _ 3 (kind-read bytes (p .1) (p .3)) (asks _ k)) (a .1)) ∙ sym (p .2 .same)
     go (suc n) e = p .4 .refused (λ z. omega arith) .board-is ∙ sym (p .2 .same)
 
 -- ---- one sheet

@@ -46,6 +46,9 @@ fn leaves(bytes: &[u8], code: u8) -> bool
     if bytes.len() == 0 {
         return false;
     }
+    if bytes[0] == 8 {
+        return true;
+    }
     bytes[0] == 4
 }
 

@@ -6,10 +6,11 @@ use mathlib.Core.Logic.{_⊎_}
 use mathlib.Core.List.{List, [], _∷_, _++_, map}
 use lib.ListN.{length, replicate, take}
 use Rattle.paper.specs.declared.Pins.{Pins}
+use Rattle.paper.specs.declared.Question.{Question}
 use Rattle.paper.specs.declared.Size.{Size}
 use Rattle.paper.specs.declared.Reply.{Reply}
 use Rattle.paper.specs.declared.Record.{Record}
-use Rattle.paper.specs.declared.Record.the-variants.{KeepOut, Malformed}
+use Rattle.paper.specs.declared.Record.the-variants.{Bounds, KeepOut, Lay, Ask, TakeOut, Undo, Malformed}
 use Rattle.paper.specs.declared.Id.{Id}
 use Rattle.paper.specs.declared.Rect.{Rect}
 use Rattle.paper.specs.declared.Item.{Item}
@@ -44,6 +45,20 @@ use Rattle.feed.specs.declared.wires.Stop.{Stop}
 -- what is read from bytes of the kind
 unfoldable pub KindIs : ℕ → Record → Type 0
 KindIs k rec = (rec ≡ Malformed) ⊎ (Plain rec × (fieldsOf rec .kind ≡ k))
+
+-- the places of the enum's cases
+abbrev pub place : Record → ℕ
+place (Bounds s) = 0
+place (KeepOut i r) = 1
+place (Lay i q) = 2
+place (Ask q) = 3
+place (TakeOut i) = 4
+place Undo = 5
+place Malformed = 6
+
+-- what is read is of the case, or malformed
+unfoldable pub CaseIs : ℕ → Record → Type 0
+CaseIs c rec = (rec ≡ Malformed) ⊎ (place rec ≡ c)
 
 -- the reply, whatever slice is lent; it stays as it is
 unfoldable pub Quietly : Layout → Record → Reply → Type 0
@@ -133,10 +148,10 @@ pub record Spelled (p : Pins) (w : Wired) (v : List Dir) : Type 0 where
   pub xs-are : w .xs ≡ filled 0 most-corners (map (λ q. q .x) (way p v))
   pub ys-are : w .ys ≡ filled 0 most-corners (map (λ q. q .y) (way p v))
 
-pub record Wires (l : Layout) (p : Pins) (w : Wired) : Type 0 where
-  pub said : Gives (pinChecks l p) (saidOf w)
+pub record Wires (l : Layout) (q : Question) (w : Wired) : Type 0 where
+  pub said : Gives (pinChecks l q) (saidOf w)
   pub blocks : w .code ≡ 0 → w .blocks ≡ blockCount (l .items)
-  pub wire : w .code ≡ 0 → TheWire l p (Spelled p w)
+  pub wire : w .code ≡ 0 → TheWire l q (Spelled (q .pins) w)
 
 -- the checks of a lay and an ask before those of their pins: n numbers are lent
 abbrev pub lentChecks : Layout → ℕ → List Check

@@ -20,7 +20,7 @@ ghost use Rattle.paper.specs.Padding.{WellFormed};
 ghost use Rattle.paper.specs.Answer.{plain, Gives, written, Replies};
 ghost use Rattle.paper.specs.Laws.Back.{nodes, layoutOf};
 ghost use Rattle.paper.specs.Laws.Feeds.{refusing};
-ghost use Rattle.feed.specs.Feeding.{KindIs, lentChecks, saidOf, wiredReply, wireItem, Laying, Lays};
+ghost use Rattle.feed.specs.Feeding.{CaseIs, lentChecks, saidOf, wiredReply, wireItem, Laying, Lays};
 
 // x and y of the first n corners, from the slice's start.
 fn write(answer: &mut [u16], xs: &[u16; MOST_CORNERS], ys: &[u16; MOST_CORNERS], n: usize)
@@ -78,18 +78,18 @@ fn lent_code(board: Board, lent: usize) -> u8
     0
 }
 
-// Kind 4.
+// Kinds 4 and 8.
 pub(crate) fn ask(board: Board, read: Record, answer: &mut [u16]) -> Reply
-    requires { ⌜ WellFormed board × KindIs 4 read ⌝ }
+    requires { ⌜ WellFormed board × CaseIs 3 read ⌝ }
     ensures { λ r. ⌜ Replies (layoutOf board) read (now (answer .entry)) (now (answer .exit)) r ⌝ }
 {
     match read {
-        Record::Ask(p) => {
+        Record::Ask(q) => {
             let code = lent_code(board, answer.len());
             if code != 0 {
                 return told(board, code);
             }
-            let found = wire(board, p);
+            let found = wire(board, q);
             if found.code != 0 {
                 return refused(board, found);
             }
@@ -133,13 +133,13 @@ fn lay_wire(board: Board, id: Id, w: Wired, answer: &mut [u16]) -> Reply
     wire_reply(next, w)
 }
 
-// Kind 3.
+// Kinds 3 and 9.
 pub(crate) fn lay(board: Board, read: Record, answer: &mut [u16]) -> Reply
-    requires { ⌜ WellFormed board × KindIs 3 read ⌝ }
+    requires { ⌜ WellFormed board × CaseIs 2 read ⌝ }
     ensures { λ r. ⌜ Replies (layoutOf board) read (now (answer .entry)) (now (answer .exit)) r ⌝ }
 {
     match read {
-        Record::Lay(id, p) => {
+        Record::Lay(id, q) => {
             let code = lent_code(board, answer.len());
             if code != 0 {
                 return told(board, code);
@@ -147,7 +147,7 @@ pub(crate) fn lay(board: Board, read: Record, answer: &mut [u16]) -> Reply
             if used(board, id.number) {
                 return told(board, 4);
             }
-            let found = wire(board, p);
+            let found = wire(board, q);
             if found.code != 0 {
                 return refused(board, found);
             }

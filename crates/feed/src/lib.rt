@@ -74,11 +74,11 @@ pub fn feed_sound(board: Board, bytes: &[u8], answer: &mut [u16]) -> Reply
     match kind_of(bytes) {
         1 => bounds(board, rec),
         2 => keep_out(board, rec),
-        3 => lay(board, rec, answer),
-        4 => ask(board, rec, answer),
+        3 | 9 => lay(board, rec, answer),
+        4 | 8 => ask(board, rec, answer),
         5 => take_out(board, rec),
         6 => undo_latest(board, rec),
-        0 | 7..=255 => told(board, 1),
+        0 | 7 | 10..=255 => told(board, 1),
     }
 }
 

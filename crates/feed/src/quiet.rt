@@ -25,11 +25,11 @@ ghost use mathlib.Core.Path.{_≡_};
 ghost use Rattle.paper.specs.Layout.{keep-out};
 ghost use Rattle.paper.specs.Padding.{itemOf, WellFormed};
 ghost use Rattle.paper.specs.Laws.Back.{layoutOf};
-ghost use Rattle.feed.specs.Feeding.{KindIs, Quietly, KeepOutCode};
+ghost use Rattle.feed.specs.Feeding.{CaseIs, Quietly, KeepOutCode};
 
 // Kind 1.
 pub(crate) fn bounds(board: Board, read: Record) -> Reply
-    requires { ⌜ WellFormed board × KindIs 1 read ⌝ }
+    requires { ⌜ WellFormed board × CaseIs 0 read ⌝ }
     ensures { λ r. ⌜ Quietly (layoutOf board) read r ⌝ }
 {
     match read {
@@ -96,7 +96,7 @@ fn rect_item(id: Id, r: Rect) -> Item
 
 // Kind 2.
 pub(crate) fn keep_out(board: Board, read: Record) -> Reply
-    requires { ⌜ WellFormed board × KindIs 2 read ⌝ }
+    requires { ⌜ WellFormed board × CaseIs 1 read ⌝ }
     ensures { λ r. ⌜ Quietly (layoutOf board) read r ⌝ }
 {
     match read {
@@ -114,7 +114,7 @@ pub(crate) fn keep_out(board: Board, read: Record) -> Reply
 
 // Kind 5.
 pub(crate) fn take_out(board: Board, read: Record) -> Reply
-    requires { ⌜ WellFormed board × KindIs 5 read ⌝ }
+    requires { ⌜ WellFormed board × CaseIs 4 read ⌝ }
     ensures { λ r. ⌜ Quietly (layoutOf board) read r ⌝ }
 {
     match read {
@@ -133,7 +133,7 @@ pub(crate) fn take_out(board: Board, read: Record) -> Reply
 
 // Kind 6.
 pub(crate) fn undo_latest(board: Board, read: Record) -> Reply
-    requires { ⌜ WellFormed board × KindIs 6 read ⌝ }
+    requires { ⌜ WellFormed board × CaseIs 5 read ⌝ }
     ensures { λ r. ⌜ Quietly (layoutOf board) read r ⌝ }
 {
     match read {

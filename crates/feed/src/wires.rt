@@ -12,8 +12,8 @@ use paper::Board;
 use paper::Item;
 use paper::MOST_BLOCKS;
 use paper::MOST_CORNERS;
-use paper::Mode;
 use paper::Pins;
+use paper::Question;
 use paper::Size;
 use paper::Verdict;
 use router::Route;
@@ -161,11 +161,13 @@ fn tell(found: Routed, blocks: usize) -> Wired
     }
 }
 
-// The answered wire between two pins, or the code that stands in its way.
-pub(crate) fn wire(board: Board, p: Pins) -> Wired
+// The answered wire between the question's pins, or the code that stands in its way.
+pub(crate) fn wire(board: Board, q: Question) -> Wired
     requires { ⌜ WellFormed board × (1 ≤ board .size .w) ⌝ }
-    ensures { λ r. ⌜ Wires (layoutOf board) p r ⌝ }
+    ensures { λ r. ⌜ Wires (layoutOf board) q r ⌝ }
 {
+    let p = q.pins;
+    let mode = q.mode;
     let held = of_board(board, true);
     let stop = pins_stop(board.size, held, p);
     if stop.pin != 0 {
@@ -176,7 +178,7 @@ pub(crate) fn wire(board: Board, p: Pins) -> Wired
     if stop.code != 0 {
         return no_wire(verdict(stop.code, 0, 0));
     }
-    let found = find_wire(board.size, held, p, Mode::Plain);
+    let found = find_wire(board.size, held, p, mode);
     let last = held.items;
     tell(found, held.first[last])
 }

@@ -8,6 +8,7 @@ use mathlib.Core.List.{List, [], _∷_, _++_}
 use lib.ListN.{length, drop, take}
 use Rattle.paper.specs.declared.Rect.{Rect}
 use Rattle.paper.specs.declared.Pins.{Pins}
+use Rattle.paper.specs.declared.Question.{Question}
 use Rattle.paper.specs.declared.Board.{Board}
 use Rattle.paper.specs.declared.Reply.{Reply}
 use Rattle.paper.specs.declared.Verdict.{Verdict}
@@ -15,7 +16,7 @@ use Rattle.paper.specs.declared.Record.{Record}
 use Rattle.paper.specs.declared.Record.the-variants.{Bounds, KeepOut, Lay, Ask, TakeOut, Undo, Malformed}
 use Rattle.paper.specs.Limits.{most-blocks, most-runs, most-kept, least-slice}
 use Rattle.paper.specs.Grid.{Node, Dir, Area, Any, Blocked, node}
-use Rattle.paper.specs.Wire.{Legal, Answered, corners, runs, detour}
+use Rattle.paper.specs.Wire.{Legal, AnsweredIn, corners, runs, detour}
 use Rattle.paper.specs.Layout.{Thing, keep-out, wire, idOf, Sort, keep-outs, wires, sortOf, rectangle, blocksOf, blockCount, Covers, round, Sealed, Seamed, gridOf, RectFits, OnBoard, Turn, added, taken, add, without, Has, Used, undo, Layout, InRange, empty}
 use Rattle.paper.specs.Padding.{boardOf, Holds, WellFormed}
 use Rattle.paper.specs.Reading.{Reads}
@@ -93,8 +94,8 @@ abbrev pub NoWire : Layout → Pins → Type 0
 NoWire l p = (w : List Dir) → ¬ (Legal (gridOf (l .size) (l .items)) (source p) (target p) w)
 
 -- the answered wire has the property
-abbrev pub TheWire : Layout → Pins → (List Dir → Type 0) → Type 0
-TheWire l p P = (w : List Dir) × Answered (gridOf (l .size) (l .items)) (source p) (target p) w × P w
+abbrev pub TheWire : Layout → Question → (List Dir → Type 0) → Type 0
+TheWire l q P = (w : List Dir) × AnsweredIn (q .mode) (gridOf (l .size) (l .items)) (source (q .pins)) (target (q .pins)) w × P w
 
 abbrev pub way : Pins → List Dir → List Node
 way p w = corners (source p) w
@@ -108,16 +109,16 @@ TooManyBlocks l t = most-blocks < blockCount (t ∷ l .items)
 -- ---- the order
 
 -- the checks that a lay and an ask share
-abbrev pub pinChecks : Layout → Pins → List Check
-pinChecks l p =
-    (9 unless (OnBoard (l .size) (source p) × OnBoard (l .size) (target p)))
-    ∷ (10 if (source p ≡ target p))
-    ∷ (11 about 1 naming Blocking l keep-outs (source p))
-    ∷ (18 about 1 naming Blocking l wires (source p))
-    ∷ (11 about 2 naming Blocking l keep-outs (target p))
-    ∷ (18 about 2 naming Blocking l wires (target p))
-    ∷ (12 if NoWire l p)
-    ∷ (13 if TheWire l p (TooManyRuns p))
+abbrev pub pinChecks : Layout → Question → List Check
+pinChecks l q =
+    (9 unless (OnBoard (l .size) (source (q .pins)) × OnBoard (l .size) (target (q .pins))))
+    ∷ (10 if (source (q .pins) ≡ target (q .pins)))
+    ∷ (11 about 1 naming Blocking l keep-outs (source (q .pins)))
+    ∷ (18 about 1 naming Blocking l wires (source (q .pins)))
+    ∷ (11 about 2 naming Blocking l keep-outs (target (q .pins)))
+    ∷ (18 about 2 naming Blocking l wires (target (q .pins)))
+    ∷ (12 if NoWire l (q .pins))
+    ∷ (13 if TheWire l q (TooManyRuns (q .pins)))
     ∷ []
 
 -- n numbers are lent
@@ -132,16 +133,16 @@ checks l (KeepOut i r) n =
     ∷ (8 if (Enters l r wires ⊎ Closes l (keep-out (i .number) r)))
     ∷ (14 if TooManyBlocks l (keep-out (i .number) r))
     ∷ []
-checks l (Lay i p) n =
+checks l (Lay i q) n =
     (2 if BeforeBounds l)
     ∷ (16 if (n < least-slice))
     ∷ (4 if Used (l .items) (i .number))
-    ∷ pinChecks l p
-    ++ (14 if TheWire l p (λ w. TooManyBlocks l (wire (i .number) (way p w)))) ∷ []
-checks l (Ask p) n =
+    ∷ pinChecks l q
+    ++ (14 if TheWire l q (λ w. TooManyBlocks l (wire (i .number) (way (q .pins) w)))) ∷ []
+checks l (Ask q) n =
     (2 if BeforeBounds l)
     ∷ (16 if (n < least-slice))
-    ∷ pinChecks l p
+    ∷ pinChecks l q
 checks l (TakeOut i) n =
     (2 if BeforeBounds l)
     ∷ (5 unless Used (l .items) (i .number))
@@ -180,8 +181,8 @@ unfoldable pub Does : Layout → Record → Outcome → Type 0
 Does l Malformed o = ⊥
 Does l (Bounds z) o = o ≡ quiet (empty z)
 Does l (KeepOut i r) o = o ≡ quiet (addTo l (keep-out (i .number) r))
-Does l (Lay i p) o = TheWire l p (λ w. o ≡ told p w (addTo l (wire (i .number) (way p w))))
-Does l (Ask p) o = TheWire l p (λ w. o ≡ told p w l)
+Does l (Lay i q) o = TheWire l q (λ w. o ≡ told (q .pins) w (addTo l (wire (i .number) (way (q .pins) w))))
+Does l (Ask q) o = TheWire l q (λ w. o ≡ told (q .pins) w l)
 Does l (TakeOut i) o = (t : Thing) × Has (l .items) t × (idOf t ≡ i .number) × (o ≡ quiet (takeFrom l t))
 Does l Undo o = (c : Turn) × (cs : List Turn) × (l .kept ≡ c ∷ cs) × (o ≡ quiet (record { size = l .size; items = undo c (l .items); kept = cs }))
 

@@ -5,13 +5,13 @@ use mathlib.Core.Path.{_≡_}
 use mathlib.Core.Logic.{_⊎_}
 use mathlib.Core.List.{List, [], _∷_}
 use lib.ListN.{length}
-use Rattle.paper.specs.declared.Pins.{Pins}
+use Rattle.paper.specs.declared.Question.{Question}
 use Rattle.paper.specs.declared.Id.{Id}
 use Rattle.paper.specs.declared.Reply.{Reply}
 use Rattle.paper.specs.declared.Record.{Record}
 use Rattle.paper.specs.declared.Record.the-variants.{Lay, Ask}
 use Rattle.paper.specs.Grid.{Node, Dir, step, Grid, Area, Any, All}
-use Rattle.paper.specs.Wire.{ToGo, Answered, runs, manhattan, detour}
+use Rattle.paper.specs.Wire.{ToGo, AnsweredIn, runs, manhattan, detour}
 use Rattle.paper.specs.Layout.{Thing, keep-out, wire, rectangle, Covered, gridOf, Layout}
 use Rattle.paper.specs.Answer.{source, target, way, written}
 
@@ -57,18 +57,18 @@ Falls G t p (d ∷ w) = ((m : ℕ) × (n : ℕ) × ToGo G t p m × ToGo G t (ste
 
 -- ---- a wire that is told, laid or asked for
 
-pub data Routes : Record → Pins → Type 0 where
-  lay : {i : Id} {p : Pins} → Routes (Lay i p) p
-  ask : {p : Pins} → Routes (Ask p) p
+pub data Routes : Record → Question → Type 0 where
+  lay : {i : Id} {q : Question} → Routes (Lay i q) q
+  ask : {q : Question} → Routes (Ask q) q
 
 -- the reply r tells of the wire w, on the board l; s was lent and holds s′ afterwards
-pub record Copper (l : Layout) (p : Pins) (s s′ : List ℕ) (r : Reply) (w : List Dir) : Type 0 where
-  pub answered : Answered (gridOf (l .size) (l .items)) (source p) (target p) w
-  pub corners : s′ ≡ written (way p w) s
+pub record Copper (l : Layout) (q : Question) (s s′ : List ℕ) (r : Reply) (w : List Dir) : Type 0 where
+  pub answered : AnsweredIn (q .mode) (gridOf (l .size) (l .items)) (source (q .pins)) (target (q .pins)) w
+  pub corners : s′ ≡ written (way (q .pins) w) s
   pub long : r .length ≡ length w
-  pub away : r .detour ≡ detour (target p) (source p) w
-  pub clear : (k : ℕ) (q : Node) → OnWire k q (way p w) → All (Shuns k (l .size .clearance) q) (l .items)
-  pub outside : (k : ℕ) (q : Node) → OnWire k q (way p w) → ¬ (Inside k q (l .items))
-  pub falls : Falls (gridOf (l .size) (l .items)) (target p) (source p) w
-  pub sum : r .length ≡ manhattan (source p) (target p) + 2 * r .detour
+  pub away : r .detour ≡ detour (target (q .pins)) (source (q .pins)) w
+  pub clear : (k : ℕ) (p : Node) → OnWire k p (way (q .pins) w) → All (Shuns k (l .size .clearance) p) (l .items)
+  pub outside : (k : ℕ) (p : Node) → OnWire k p (way (q .pins) w) → ¬ (Inside k p (l .items))
+  pub falls : Falls (gridOf (l .size) (l .items)) (target (q .pins)) (source (q .pins)) w
+  pub sum : r .length ≡ manhattan (source (q .pins)) (target (q .pins)) + 2 * r .detour
   pub bits : r .length < 4294967296

@@ -11,7 +11,7 @@ use Rattle.paper.specs.declared.Record.{Record}
 use Rattle.paper.specs.declared.Record.the-variants.{Bounds, KeepOut, Lay, Ask, TakeOut, Undo, Malformed}
 use Rattle.paper.specs.Limits.{most-kept}
 use Rattle.paper.specs.Grid.{Dir}
-use Rattle.paper.specs.Wire.{Answered}
+use Rattle.paper.specs.Wire.{AnsweredIn}
 use Rattle.paper.specs.Layout.{Thing, keep-out, wire, gridOf, add, without, no-bounds}
 use Rattle.paper.specs.Reading.{Reads}
 use Rattle.paper.specs.Answer.{source, target, way, verdict, Fed}
@@ -36,9 +36,10 @@ unfoldable pub Passes : Past → Record → Past → Type 0
 Passes h Malformed h′ = ⊥
 Passes h (Bounds z) h′ = h′ ≡ record { size = z; now = []; before = [] }
 Passes h (KeepOut i r) h′ = h′ ≡ becomes h (add (keep-out (i .number) r) (h .now))
-Passes h (Lay i p) h′ =
-    (w : List Dir) × Answered (gridOf (h .size) (h .now)) (source p) (target p) w × (h′ ≡ becomes h (add (wire (i .number) (way p w)) (h .now)))
-Passes h (Ask p) h′ = h′ ≡ h
+Passes h (Lay i q) h′ =
+    (w : List Dir) × AnsweredIn (q .mode) (gridOf (h .size) (h .now)) (source (q .pins)) (target (q .pins)) w
+    × (h′ ≡ becomes h (add (wire (i .number) (way (q .pins) w)) (h .now)))
+Passes h (Ask q) h′ = h′ ≡ h
 Passes h (TakeOut i) h′ = h′ ≡ becomes h (without (i .number) (h .now))
 Passes h Undo h′ = (ts : List Thing) × (bs : List (List Thing)) × (h .before ≡ ts ∷ bs) × (h′ ≡ record { size = h .size; now = ts; before = bs })
 

@@ -50,3 +50,5 @@ pub mod Bent
 pub mod Walked
 pub mod Drawn
 pub mod Named
+-- fewer turns
+pub mod Modes

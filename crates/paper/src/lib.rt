@@ -43,12 +43,18 @@ pub enum Mode {
     Fewest,
 }
 
+// What is asked of a wire.
+pub struct Question {
+    pub pins: Pins,
+    pub mode: Mode,
+}
+
 // A record as it was read.
 pub enum Record {
     Bounds(Size),
     KeepOut(Id, Rect),
-    Lay(Id, Pins),
-    Ask(Pins),
+    Lay(Id, Question),
+    Ask(Question),
     TakeOut(Id),
     Undo,
     Malformed,

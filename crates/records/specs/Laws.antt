@@ -8,10 +8,12 @@ use mathlib.Core.Logic.{inl, inr, ⊎-elim}
 use mathlib.Core.List.{List}
 use lib.ListN.{length, getD}
 use Rattle.records.specs.declared.Numbers.{Numbers}
-use Rattle.records.specs.Row.{withKind, Row, Blank, SaysBlank}
+use Rattle.records.specs.Row.{withKind, asked, Row, Blank, SaysBlank}
+use Rattle.paper.specs.declared.Mode.{Mode}
+use Rattle.paper.specs.declared.Mode.the-variants as mode
 use Rattle.paper.specs.declared.Record.{Record}
 use Rattle.paper.specs.declared.Record.the-variants.{Bounds, KeepOut, Lay, Ask, TakeOut, Undo, Malformed}
-use Rattle.paper.specs.Reading.{fields, fieldsIn, fieldsOf, Plain, Reads, word}
+use Rattle.paper.specs.Reading.{fields, fieldsIn, layKind, askKind, fieldsOf, Plain, Reads, word}
 use Rattle.paper.specs.Laws.Read.{byKind, candidate, candidate-back}
 
 pub row-is : (k : ℕ) (n : Numbers) (r : Record) → Plain r → withKind k n ≡ fieldsOf r → Row k n r
@@ -35,7 +37,7 @@ pub said-not : (n : Numbers) (b : Bool) → SaysBlank n b → b ≡ false → ¬
 unfolding SaysBlank
 said-not n b s e = subst (SaysBlank n) e s
 
--- ---- the six rows
+-- ---- a row each
 
 pub row-bounds : (n : Numbers) → n .id ≡ 0 → n .d ≡ 0 → Row 1 n (Bounds (record { w = n .a; h = n .b; clearance = n .c }))
 unfolding Plain fieldsOf
@@ -45,13 +47,23 @@ pub row-keep-out : (n : Numbers) → ¬ (n .id ≡ 0) → Row 2 n (KeepOut (reco
 unfolding Plain fieldsOf
 row-keep-out n i = row-is 2 n _ (omega arith) refl
 
-pub row-lay : (n : Numbers) → ¬ (n .id ≡ 0) → Row 3 n (Lay (record { number = n .id }) (record { sx = n .a; sy = n .b; tx = n .c; ty = n .d }))
+pub row-lay : (m : Mode) (n : Numbers) → ¬ (n .id ≡ 0) → Row (layKind m) n (Lay (record { number = n .id }) (asked m n))
 unfolding Plain fieldsOf
-row-lay n i = row-is 3 n _ (omega arith) refl
+row-lay m n i = row-is (layKind m) n _ (omega arith) refl
 
-pub row-ask : (n : Numbers) → n .id ≡ 0 → Row 4 n (Ask (record { sx = n .a; sy = n .b; tx = n .c; ty = n .d }))
+pub no-lay : (m : Mode) (n : Numbers) → n .id ≡ 0 → Row (layKind m) n Malformed
+unfolding byKind Plain
+no-lay mode.Plain n z = row-none 3 n (λ p e. omega arith)
+no-lay mode.Fewest n z = row-none 9 n (λ p e. omega arith)
+
+pub row-ask : (m : Mode) (n : Numbers) → n .id ≡ 0 → Row (askKind m) n (Ask (asked m n))
 unfolding Plain fieldsOf
-row-ask n i = row-is 4 n _ tt (λ k. fields 4 (i k) (n .a) (n .b) (n .c) (n .d))
+row-ask m n i = row-is (askKind m) n _ tt (λ k. fields (askKind m) (i k) (n .a) (n .b) (n .c) (n .d))
+
+pub no-ask : (m : Mode) (n : Numbers) → ¬ (n .id ≡ 0) → Row (askKind m) n Malformed
+unfolding byKind fieldsOf
+no-ask mode.Plain n i = row-none 4 n (λ p e. i (ap (λ f. f .id) e))
+no-ask mode.Fewest n i = row-none 8 n (λ p e. i (ap (λ f. f .id) e))
 
 pub row-take-out : (n : Numbers) → ¬ (n .id ≡ 0) → Blank n → Row 5 n (TakeOut (record { number = n .id }))
 unfolding Plain fieldsOf
@@ -65,21 +77,29 @@ row-undo n i z = row-is 6 n _ tt (λ k. fields 6 (i k) (z .0 k) (z .1 k) (z .2 k
 pub blank-of : (n : Numbers) (k j : ℕ) → withKind k n ≡ fields k j 0 0 0 0 → Blank n
 blank-of n k j e = (ap (λ f. f .a) e, ap (λ f. f .b) e, ap (λ f. f .c) e, ap (λ f. f .d) e)
 
--- a kind that is none of 1 to 6
+-- a kind that is none of 1 to 6, 8 and 9
 pub row-zero : (n : Numbers) → Row 0 n Malformed
 unfolding byKind Plain
 row-zero n = row-none 0 n (λ p. absurd p)
 
-pub row-rest : (k : ℕ) (n : Numbers) → ¬ (k ≡ 0) → ¬ (k ≡ 1) → ¬ (k ≡ 2) → ¬ (k ≡ 3) → ¬ (k ≡ 4) → ¬ (k ≡ 5) → ¬ (k ≡ 6) → Row k n Malformed
+pub row-seven : (n : Numbers) → Row 7 n Malformed
 unfolding byKind Plain
-row-rest zero n a b c d e f g = absurd (a refl)
-row-rest (suc zero) n a b c d e f g = absurd (b refl)
-row-rest (suc (suc zero)) n a b c d e f g = absurd (c refl)
-row-rest (suc (suc (suc zero))) n a b c d e f g = absurd (d refl)
-row-rest (suc (suc (suc (suc zero)))) n a b c d e f g = absurd (e refl)
-row-rest (suc (suc (suc (suc (suc zero))))) n a b c d e f g = absurd (f refl)
-row-rest (suc (suc (suc (suc (suc (suc zero)))))) n a b c d e f g = absurd (g refl)
-row-rest (suc (suc (suc (suc (suc (suc (suc k))))))) n a b c d e f g = row-none _ n (λ p. absurd p)
+row-seven n = row-none 7 n (λ p. absurd p)
+
+pub row-rest : (k : ℕ) (n : Numbers) → ¬ (k ≡ 0) → ¬ (k ≡ 1) → ¬ (k ≡ 2) → ¬ (k ≡ 3) → ¬ (k ≡ 4) → ¬ (k ≡ 5) → ¬ (k ≡ 6) → ¬ (k ≡ 7) → ¬ (k ≡ 8)
+    → ¬ (k ≡ 9) → Row k n Malformed
+unfolding byKind Plain
+row-rest zero n a b c d e f g h i j = absurd (a refl)
+row-rest (suc zero) n a b c d e f g h i j = absurd (b refl)
+row-rest (suc (suc zero)) n a b c d e f g h i j = absurd (c refl)
+row-rest (suc (suc (suc zero))) n a b c d e f g h i j = absurd (d refl)
+row-rest (suc (suc (suc (suc zero)))) n a b c d e f g h i j = absurd (e refl)
+row-rest (suc (suc (suc (suc (suc zero))))) n a b c d e f g h i j = absurd (f refl)
+row-rest (suc (suc (suc (suc (suc (suc zero)))))) n a b c d e f g h i j = absurd (g refl)
+row-rest (suc (suc (suc (suc (suc (suc (suc zero))))))) n a b c d e f g h i j = absurd (h refl)
+row-rest (suc (suc (suc (suc (suc (suc (suc (suc zero)))))))) n a b c d e f g h i j = absurd (i refl)
+row-rest (suc (suc (suc (suc (suc (suc (suc (suc (suc zero))))))))) n a b c d e f g h i j = absurd (j refl)
+row-rest (suc (suc (suc (suc (suc (suc (suc (suc (suc (suc k)))))))))) n a b c d e f g h i j = row-none _ n (λ p. absurd p)
 
 -- ---- from the row to the bytes
 
@@ -87,8 +107,8 @@ one-zero : (r : Record) → fieldsOf r .zero ≡ 0
 unfolding fieldsOf
 one-zero (Bounds s) = refl
 one-zero (KeepOut i r) = refl
-one-zero (Lay i p) = refl
-one-zero (Ask p) = refl
+one-zero (Lay i q) = refl
+one-zero (Ask q) = refl
 one-zero (TakeOut i) = refl
 one-zero Undo = refl
 one-zero Malformed = refl

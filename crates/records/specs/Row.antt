@@ -5,12 +5,18 @@ use mathlib.Core.Path.{_≡_}
 use mathlib.Core.Bool.{Bool, true, false}
 use mathlib.Core.Logic.{_⊎_}
 use Rattle.records.specs.declared.Numbers.{Numbers}
+use Rattle.paper.specs.declared.Mode.{Mode}
+use Rattle.paper.specs.declared.Question.{Question}
 use Rattle.paper.specs.declared.Record.{Record}
 use Rattle.paper.specs.declared.Record.the-variants.{Malformed}
 use Rattle.paper.specs.Reading.{Fields, fields, fieldsOf, Plain}
 
 abbrev pub withKind : ℕ → Numbers → Fields
 withKind k n = fields k (n .id) (n .a) (n .b) (n .c) (n .d)
+
+-- the question that the four numbers ask
+abbrev pub asked : Mode → Numbers → Question
+asked m n = record { pins = record { sx = n .a; sy = n .b; tx = n .c; ty = n .d }; mode = m }
 
 -- they are the record's, or no record's
 unfoldable pub Row : ℕ → Numbers → Record → Type 0

@@ -1,14 +1,16 @@
 // The twelve-byte record: the bytes that are handed in, a part of a file's slice, to the enum.
 use paper::Id;
+use paper::Mode;
 use paper::Pins;
+use paper::Question;
 use paper::Record;
 use paper::Rect;
 use paper::Size;
 ghost use mathlib.Core.Path.{_≡_};
 ghost use Prim.Native.Nat.{_+_, _<_};
 ghost use lib.ListN.{length};
-ghost use Rattle.paper.specs.Reading.{word, Reads};
-ghost use Rattle.records.specs.Row.{Row, SaysBlank};
+ghost use Rattle.paper.specs.Reading.{word, layKind, askKind, Reads};
+ghost use Rattle.records.specs.Row.{asked, Row, SaysBlank};
 
 // The id and the four numbers a b c d.
 struct Numbers {
@@ -69,33 +71,35 @@ fn keep_out(n: Numbers) -> Record
     )
 }
 
-fn lay(n: Numbers) -> Record
-    ensures { λ r. ⌜ Row 3 n r ⌝ }
+// What is asked of a wire: the four numbers are its pins.
+fn question(n: Numbers, mode: Mode) -> Question
+    ensures { λ r. ⌜ r ≡ asked mode n ⌝ }
 {
-    if n.id == 0 {
-        return Record::Malformed;
-    }
-    Record::Lay(
-        Id { number: n.id },
-        Pins {
+    Question {
+        pins: Pins {
             sx: n.a,
             sy: n.b,
             tx: n.c,
             ty: n.d,
         },
-    )
+        mode: mode,
+    }
 }
 
-fn ask(n: Numbers) -> Record
-    ensures { λ r. ⌜ Row 4 n r ⌝ }
+fn lay(n: Numbers, mode: Mode) -> Record
+    ensures { λ r. ⌜ Row (layKind mode) n r ⌝ }
 {
     if n.id == 0 {
-        return Record::Ask(Pins {
-            sx: n.a,
-            sy: n.b,
-            tx: n.c,
-            ty: n.d,
-        });
+        return Record::Malformed;
+    }
+    Record::Lay(Id { number: n.id }, question(n, mode))
+}
+
+fn ask(n: Numbers, mode: Mode) -> Record
+    ensures { λ r. ⌜ Row (askKind mode) n r ⌝ }
+{
+    if n.id == 0 {
+        return Record::Ask(question(n, mode));
     }
     Record::Malformed
 }
@@ -145,11 +149,13 @@ fn by_kind(kind: u8, n: Numbers) -> Record
     match kind {
         1 => bounds(n),
         2 => keep_out(n),
-        3 => lay(n),
-        4 => ask(n),
+        3 => lay(n, Mode::Plain),
+        4 => ask(n, Mode::Plain),
         5 => take_out(n),
         6 => undo(n),
-        0 | 7..=255 => Record::Malformed,
+        8 => ask(n, Mode::Fewest),
+        9 => lay(n, Mode::Fewest),
+        0 | 7 | 10..=255 => Record::Malformed,
     }
 }
 

@@ -10,7 +10,8 @@ usage: bench COMMAND, reading standard input and writing standard output;
 
   print                   records -> the sheet's lines
   gen SEED STYLE [COUNT]  nothing -> a random record file
-  tally                   records -> how often each code came, 11 and 18 by pin
+  tally                   records -> how often each code came, 11 and 18 by pin,
+                          and kinds 8 and 9 beside kind 4
   pack                    readable text -> records
   unpack                  records -> readable text
   draw [--sheet SHEET] [--after N] [--window x0 y0 x1 y1] [--crowd]
@@ -37,6 +38,7 @@ usage: bench COMMAND, reading standard input and writing standard output;
   questions NAME          nothing -> a file of questions to time
   time [PROGRAM]          nothing -> a table: the peer's speed and PROGRAM's
                           (the proved router's unless given), on questions
+                          of kind 4 and of kind 8
   time sheet [PROGRAM]    the same for whole files of records (trackprint
                           unless given)
 

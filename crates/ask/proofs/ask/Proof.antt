@@ -44,8 +44,11 @@ blocks-at-requires c κs = search needs
 may-ask-requires : tie.Need-may-ask-requires
 may-ask-requires c κs = search needs
 
+mode-at-requires : tie.Need-mode-at-requires
+mode-at-requires c κs = search needs
+
 find-wire-requires : tie.Need-find-wire-requires
-find-wire-requires c κs = (one-fits _ (c .before .before .blocks-at .ensures), c .before .may-ask .ensures (taken (c .if1 .taken)))
+find-wire-requires c κs = let t = c .before in (one-fits _ (t .before .before .blocks-at .ensures), t .before .may-ask .ensures (taken (t .if1 .taken)))
 
 mix-answer-requires : tie.Need-mix-answer-requires
 mix-answer-requires c κs = search needs
@@ -73,6 +76,7 @@ ask-spec =
     word-requires-6
     blocks-at-requires
     may-ask-requires
+    mode-at-requires
     find-wire-requires
     mix-answer-requires
     returns

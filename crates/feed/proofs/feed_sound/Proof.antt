@@ -3,19 +3,42 @@
 use Prim.Native.Nat.{ℕ, _≤_}
 use native.Mathlib.Omega.{arith}
 use mathlib.Core.Path.{_≡_, refl, sym, subst, subst₂, _∙_}
-use mathlib.Core.Logic.{⊎-elim}
+use mathlib.Core.Logic.{_⊎_, inl, inr, ⊎-elim}
 use borrow.Author.Needs.{needs}
 use Rattle.paper.specs.Answer.{Replies}
 use Rattle.paper.specs.Laws.Back.{layoutOf}
-use Rattle.feed.specs.Feeding.{KindIs, Quietly}
-use Rattle.feed.specs.Laws.Kinds.{kind-read, no-kind}
+use Rattle.feed.specs.Feeding.{KindIs, CaseIs, Quietly}
+use Rattle.feed.specs.Laws.Kinds.{kind-read, Case, of-kind, no-kind}
 use Rattle.feed.specs.Laws.Replying.{malformed-reply, fed-by}
 use Rattle.feed.proofs.feed_sound.Statement.{statement}
 use Rattle.feed.proofs.feed_sound.Tie as tie
 
 -- what was read is of the kind that the match found
-kind : (k : tie.After-kind-of) (n : ℕ) → k .kind-of .result ≡ n → KindIs n (k .before .read .result)
-kind k n e = subst (λ n. KindIs n (k .before .read .result)) (sym (k .kind-of .ensures) ∙ e) (kind-read _ _ (k .before .read .ensures))
+kind : (k : tie.After-kind-of) → KindIs (k .kind-of .result) (k .before .read .result)
+kind k = subst (λ n. KindIs n (k .before .read .result)) (sym (k .kind-of .ensures)) (kind-read _ _ (k .before .read .ensures))
+
+-- and of the case
+case : (k : tie.After-kind-of) (c : ℕ) → Case (k .kind-of .result) c → CaseIs c (k .before .read .result)
+case k c h = of-kind _ _ c (kind k) h
+
+-- 0 and 7 are no kinds
+apart : (n : ℕ) → (n ≡ 0) ⊎ (n ≡ 7) → ¬ (((1 ≤ n) × (n ≤ 6)) ⊎ (n ≡ 8) ⊎ (n ≡ 9))
+apart n (inl e) (inl h) = omega (arith, h)
+apart n (inl e) (inr (inl h)) = omega arith
+apart n (inl e) (inr (inr h)) = omega arith
+apart n (inr e) (inl h) = omega (arith, h)
+apart n (inr e) (inr (inl h)) = omega arith
+apart n (inr e) (inr (inr h)) = omega arith
+
+-- and those that are none of them are none
+beyond : (n : ℕ) → ¬ (n ≡ 1) → ¬ (n ≡ 2) → ¬ ((n ≡ 3) ⊎ (n ≡ 9)) → ¬ ((n ≡ 4) ⊎ (n ≡ 8)) → ¬ (n ≡ 5) → ¬ (n ≡ 6)
+    → ¬ (((1 ≤ n) × (n ≤ 6)) ⊎ (n ≡ 8) ⊎ (n ≡ 9))
+beyond n a b c d e f (inl h) =
+    let k : ¬ (n ≡ 3) = λ z. c (inl z) in
+    let l : ¬ (n ≡ 4) = λ z. d (inl z) in
+    omega (arith, h)
+beyond n a b c d e f (inr (inl h)) = d (inr h)
+beyond n a b c d e f (inr (inr h)) = c (inr h)
 
 read-requires : tie.Need-read-requires
 read-requires c κs = search needs
@@ -24,22 +47,22 @@ kind-of-requires : tie.Need-kind-of-requires
 kind-of-requires c κs = search needs
 
 bounds-requires : tie.Need-bounds-requires
-bounds-requires c κs = (c .before .before .before .before .before .pre, kind (c .before) 1 (c .match .keys1))
+bounds-requires c κs = (c .before .before .before .before .before .pre, case (c .before) 0 (inl (omega (arith, c .match .keys1), c .match .keys1)))
 
 keep-out-requires : tie.Need-keep-out-requires
-keep-out-requires c κs = (c .before .before .before .before .before .pre, kind (c .before) 2 (c .match .keys2))
+keep-out-requires c κs = (c .before .before .before .before .before .pre, case (c .before) 1 (inl (omega (arith, c .match .keys2), c .match .keys2)))
 
 lay-requires : tie.Need-lay-requires
-lay-requires c κs = (c .before .before .before .before .before .before .pre, kind (c .before .before) 3 (c .before .match .keys3))
+lay-requires c κs = (c .before .before .before .before .before .before .pre, case (c .before .before) 2 (⊎-elim (λ e. inl (omega (arith, e), e)) (λ e. inr (inr (e, refl))) (c .before .match .keys3)))
 
 ask-requires : tie.Need-ask-requires
-ask-requires c κs = (c .before .before .before .before .before .before .pre, kind (c .before .before) 4 (c .before .match .keys4))
+ask-requires c κs = (c .before .before .before .before .before .before .pre, case (c .before .before) 3 (⊎-elim (λ e. inl (omega (arith, e), e)) (λ e. inr (inl (e, refl))) (c .before .match .keys4)))
 
 take-out-requires : tie.Need-take-out-requires
-take-out-requires c κs = (c .before .before .before .before .before .pre, kind (c .before) 5 (c .match .keys5))
+take-out-requires c κs = (c .before .before .before .before .before .pre, case (c .before) 4 (inl (omega (arith, c .match .keys5), c .match .keys5)))
 
 undo-latest-requires : tie.Need-undo-latest-requires
-undo-latest-requires c κs = (c .before .before .before .before .before .pre, kind (c .before) 6 (c .match .keys6))
+undo-latest-requires c κs = (c .before .before .before .before .before .pre, case (c .before) 5 (inl (omega (arith, c .match .keys6), c .match .keys6)))
 
 told-requires : tie.Need-told-requires
 told-requires c κs = search needs
@@ -90,10 +113,10 @@ returns-7 c =
     let s = k .before .before .before .before in
     let rd = k .before .read .ensures in
     let n : ℕ = k .kind-of .result in
-    let out : ¬ ((1 ≤ n) × (n ≤ 6))
-    = λ h. ⊎-elim (λ z. omega (arith, z .keys7, h)) (λ z.
-    omega (arith, z .rest .0 .0 .0 .0 .0 .0 .1, z .rest .0 .0 .0 .0 .0 .1, z .rest .0 .0 .0 .0 .1, z .rest .0 .0 .0 .1, z .rest .0 .0 .1, z .rest .0 .1, h)) (c .before .match .came) in
-    let e = no-kind _ _ (kind k n refl) out in
+    let out : ¬ (((1 ≤ n) × (n ≤ 6)) ⊎ (n ≡ 8) ⊎ (n ≡ 9))
+    = ⊎-elim (λ z. apart n (z .keys7))
+    (λ z. let r = z .rest .0 in beyond n (r .0 .0 .0 .0 .0 .1) (r .0 .0 .0 .0 .1) (r .0 .0 .0 .1) (r .0 .0 .1) (r .0 .1) (r .1)) (c .before .match .came) in
+    let e = no-kind _ _ (kind k) out in
     fed-by _ (s .pre) _ _ _ _ _ rd
     (subst₂ (λ rec r. Replies (layoutOf (s .args .board)) rec (s .args .answer .now) (s .args .answer .now) r) (sym e) (sym (c .told .ensures)) (malformed-reply _ (s .pre) _))
 

@@ -8,7 +8,7 @@ use mathlib.Core.List.{List, [], _∷_}
 use lib.ListN.{length, getD, replicate, length-replicate}
 use Rattle.paper.specs.declared.Board.{Board}
 use Rattle.paper.specs.declared.Reply.{Reply}
-use Rattle.paper.specs.declared.Pins.{Pins}
+use Rattle.paper.specs.declared.Question.{Question}
 use Rattle.paper.specs.declared.Record.the-variants.{Ask, Undo}
 use Rattle.paper.specs.Grid.{Node, All, Any, Blocked, node}
 use Rattle.paper.specs.Layout.{Thing, idOf, wires, blocksOf, blocksTo, without, Has, Layout, fresh}
@@ -128,13 +128,13 @@ still-blocked c i p t (u ∷ us) (inr h) n b =
     (without-cases i u us)
 
 -- and an ask from there is not accepted
-pub blocked-refused : (b : Board) (bytes s s′ : List ℕ) (r : Reply) (l : Layout) (p : Pins) → Fed b bytes s s′ r → Holds b l → Reads bytes (Ask p)
-    → Blocked (blocksTo (l .size .clearance) wires (l .items)) (node (source p)) → ¬ (r .code ≡ 0)
+pub blocked-refused : (b : Board) (bytes s s′ : List ℕ) (r : Reply) (l : Layout) (q : Question) → Fed b bytes s s′ r → Holds b l → Reads bytes (Ask q)
+    → Blocked (blocksTo (l .size .clearance) wires (l .items)) (node (source (q .pins))) → ¬ (r .code ≡ 0)
 unfolding Fed WellFormed Spared checks
-blocked-refused b bytes s s′ r l p (inl f) k rd h z = f .0 (l, k)
-blocked-refused b bytes s s′ r l p (inr f) k rd h z =
+blocked-refused b bytes s s′ r l q (inl f) k rd h z = f .0 (l, k)
+blocked-refused b bytes s s′ r l q (inr f) k rd h z =
     let m : f .0 ≡ l = one-layout b (f .0) l (f .2) k in
-    let e : f .1 ≡ Ask p = one-record bytes (f .1) (Ask p) (f .3) rd in
-    let g : Replies l (Ask p) s s′ r = subst₂ (λ l rec. Replies l rec s s′ r) m e (f .4) in
-    let c = spares l (Ask p) (length s) (verdict r) z (g .code) in
-    clear-node l (source p) (c 11) (c 18) h
+    let e : f .1 ≡ Ask q = one-record bytes (f .1) (Ask q) (f .3) rd in
+    let g : Replies l (Ask q) s s′ r = subst₂ (λ l rec. Replies l rec s s′ r) m e (f .4) in
+    let c = spares l (Ask q) (length s) (verdict r) z (g .code) in
+    clear-node l (source (q .pins)) (c 11) (c 18) h

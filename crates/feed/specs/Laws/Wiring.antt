@@ -10,10 +10,11 @@ use lib.ListN.{length}
 use Rattle.paper.specs.declared.Pins.{Pins}
 use Rattle.paper.specs.declared.Size.{Size}
 use Rattle.paper.specs.declared.Verdict.{Verdict}
-use Rattle.paper.specs.declared.Mode.the-variants.{Plain}
+use Rattle.paper.specs.declared.Mode.{Mode}
+use Rattle.paper.specs.declared.Question.{Question}
 use Rattle.paper.specs.Limits.{most-corners}
 use Rattle.paper.specs.Grid.{Node, Dir, Grid, Any, Pairs, Blocked, node, step, rank, gridWith}
-use Rattle.paper.specs.Wire.{Legal, Answered, corners, turns, runs}
+use Rattle.paper.specs.Wire.{Legal, AnsweredIn, corners, turns, runs}
 use Rattle.paper.specs.Layout.{Thing, wire, idOf, Sort, keep-outs, wires, Below, blocksTo, blockCount, gridOf, OnBoard, Layout, InRange}
 use Rattle.paper.specs.Padding.{filled}
 use Rattle.paper.specs.Answer.{named, plain, _if_, Gives, source, target, BarsNode, Blocking, NoWire, TheWire, way, TooManyRuns, pinChecks}
@@ -23,7 +24,7 @@ use Rattle.paper.specs.Laws.Drawn.{none-among}
 use Rattle.paper.specs.Laws.Lists.{any-imp}
 use Rattle.paper.specs.Laws.Smallest.{HasId, above}
 use Rattle.paper.specs.Laws.Standing.{thingAt}
-use Rattle.paper.specs.Laws.Least.{one-answer}
+use Rattle.paper.specs.Laws.Least.{one-in, in-legal}
 use Rattle.paper.specs.Laws.Says.{said}
 use Rattle.paper.specs.Laws.Covering.{inside-barred}
 use Rattle.paper.specs.Laws.Joins.{joined}
@@ -37,7 +38,7 @@ use Rattle.seams.specs.Laws.Sunk.{round-found}
 use Rattle.router.specs.declared.Route.{Route}
 use Rattle.router.specs.declared.Route.the-variants.{Wire, NoWire as NoRoute, TooManyRuns as ManyRuns}
 use Rattle.router.specs.declared.Routed.{Routed}
-use Rattle.router.specs.Route.{Found as Told, Written, Answers, Asked}
+use Rattle.router.specs.Route.{Found as Told, Written, AnswersIn, Asked}
 use Rattle.router.specs.One.{routes-of}
 use Rattle.router.specs.Cells.{answers-cells}
 use Rattle.feed.specs.declared.wires.Stop.{Stop}
@@ -200,54 +201,63 @@ wire-asks b l p held range g =
 
 -- ---- what the router's answer says
 
-pub refused-start : (l : Layout) (p : Pins) (v : Verdict) → ¬ (v .code ≡ 0) → Gives (startChecks l p) v → Wires l p (noWire v)
-refused-start l p v n g = record { said = gives-first (startChecks l p) _ v n g; blocks = λ z. absurd (n z); wire = λ z. absurd (n z) }
+pub refused-start : (l : Layout) (q : Question) (v : Verdict) → ¬ (v .code ≡ 0) → Gives (startChecks l (q .pins)) v → Wires l q (noWire v)
+refused-start l q v n g = record { said = gives-first (startChecks l (q .pins)) _ v n g; blocks = λ z. absurd (n z); wire = λ z. absurd (n z) }
 
-module _ (l : Layout) (p : Pins) (g : Clear (startChecks l p)) where
-  G : Grid
+module _ (l : Layout) (q : Question) (g : Clear (startChecks l (q .pins))) where
+  abbrev p : Pins
+  p = q .pins
+
+  abbrev m : Mode
+  m = q .mode
+
+  abbrev G : Grid
   G = gridOf (l .size) (l .items)
 
-  after : (k : ℕ) → Gives ((12 if NoWire l p) ∷ (13 if TheWire l p (TooManyRuns p)) ∷ []) (plain k) → Gives (pinChecks l p) (plain k)
+  after : (k : ℕ) → Gives ((12 if NoWire l p) ∷ (13 if TheWire l q (TooManyRuns p)) ∷ []) (plain k) → Gives (pinChecks l q) (plain k)
   after k h = gives-then (startChecks l p) _ (plain k) g h
 
   -- the wire that is told is the one that is written
-  spelled : (n d k b : ℕ) (ps : List Node) (xs ys : List ℕ) → Told Plain (gridOf (l .size) (l .items)) (source p) (target p) (Wire n d k)
-      → Written Plain (gridOf (l .size) (l .items)) (source p) (target p) (Wire n d k) ps
+  spelled : (n d k b : ℕ) (ps : List Node) (xs ys : List ℕ) → Told m G (source p) (target p) (Wire n d k)
+      → Written m G (source p) (target p) (Wire n d k) ps
       → xs ≡ filled 0 most-corners (map (λ q. q .x) ps) → ys ≡ filled 0 most-corners (map (λ q. q .y) ps)
-      → TheWire l p (Spelled p (wiredBy (Wire n d k) xs ys b))
+      → TheWire l q (Spelled p (wiredBy (Wire n d k) xs ys b))
   unfolding Told Written
   spelled n d k b ps xs ys f w x y =
       let v = f .0 in
-      let a : Answered (gridOf (l .size) (l .items)) (source p) (target p) v = f .1 .0 in
-      let e : ps ≡ way p v = w .2 ∙ ap (way p) (one-answer (gridOf (l .size) (l .items)) (source p) (target p) (w .0) v (w .1) a) in
+      let a : AnsweredIn m G (source p) (target p) v = f .1 .0 in
+      let e : ps ≡ way p v = w .2 ∙ ap (way p) (one-in m G (source p) (target p) (w .0) v (w .1) a) in
       (v, a, record { length-is = f .2; detour-is = f .3; corners-are = f .4; xs-are = rw e at x; ys-are = rw e at y })
 
   pub wires-by : (r : Route) (ps : List Node) (xs ys : List ℕ) (b : ℕ) → b ≡ blockCount (l .items)
-      → Told Plain (gridOf (l .size) (l .items)) (source p) (target p) r → Written Plain (gridOf (l .size) (l .items)) (source p) (target p) r ps
+      → Told m G (source p) (target p) r → Written m G (source p) (target p) r ps
       → xs ≡ filled 0 most-corners (map (λ q. q .x) ps) → ys ≡ filled 0 most-corners (map (λ q. q .y) ps)
-      → Wires l p (wiredBy r xs ys b)
+      → Wires l q (wiredBy r xs ys b)
   unfolding Told Gives
   wires-by (Wire n d k) ps xs ys b e f w x y =
-      let few : ¬ (TheWire l p (TooManyRuns p))
-      = λ t. omega (arith, f .1 .1, t .2, ap (λ v. length (runs (way p v))) (one-answer (gridOf (l .size) (l .items)) (source p) (target p) (t .0) (f .0) (t .1) (f .1 .0))) in
+      let few : ¬ (TheWire l q (TooManyRuns p))
+      = λ t. omega (arith, f .1 .1, t .2, ap (λ v. length (runs (way p v))) (one-in m G (source p) (target p) (t .0) (f .0) (t .1) (f .1 .0))) in
       record {
-        said = after 0 (inr (λ h. h (f .0) (f .1 .0 .legal), inr (few, refl)));
+        said = after 0 (inr (λ h. h (f .0) (in-legal m G (source p) (target p) (f .0) (f .1 .0)), inr (few, refl)));
         blocks = λ z. e;
         wire = λ z. spelled n d k b ps xs ys f w x y;
       }
   wires-by NoRoute ps xs ys b e f w x y = record { said = after 12 (inl (f, refl)); blocks = λ z. absurd (omega arith); wire = λ z. absurd (omega arith) }
   wires-by (ManyRuns n) ps xs ys b e f w x y = record {
-    said = after 13 (inr (λ h. h (f .0) (f .1 .0 .legal), inl ((f .0, f .1 .0, f .1 .1), refl)));
+    said = after 13 (inr (λ h. h (f .0) (in-legal m G (source p) (target p) (f .0) (f .1 .0)), inl ((f .0, f .1 .0, f .1 .1), refl)));
     blocks = λ z. absurd (omega arith);
     wire = λ z. absurd (omega arith);
   }
 
-pub wires-told : (b : Blocks) (l : Layout) (p : Pins) (r : Routed) (n : ℕ) → HeldOf b wires l → InRange (l .size) → Clear (startChecks l p)
-    → Answers (gridWith (l .size .w) (l .size .h) (joined (flat b))) (source p) (target p) r → n ≡ blockCount (l .items) → Wires l p (wiredOf r n)
-wires-told b l p r n held range g a e =
-    let c : Answers (gridWith (l .size .w) (l .size .h) (joined (blocksTo (l .size .clearance) wires (l .items)))) (source p) (target p) r = rw (flat-held held) at a in
-    let h = routes-of Plain (gridOf (l .size) (l .items)) (source p) (target p) (r .route) (r .xs) (r .ys) (answers-cells Plain (l .size) (l .items) (source p) (target p) r (range .2 .0) c) in
-    wires-by l p g (r .route) (h .turned) (r .xs) (r .ys) n e (h .found) (h .written) (h .xs-are) (h .ys-are)
+pub wires-told : (b : Blocks) (l : Layout) (q : Question) (r : Routed) (n : ℕ) → HeldOf b wires l → InRange (l .size) → Clear (startChecks l (q .pins))
+    → AnswersIn (q .mode) (gridWith (l .size .w) (l .size .h) (joined (flat b))) (source (q .pins)) (target (q .pins)) r → n ≡ blockCount (l .items)
+    → Wires l q (wiredOf r n)
+wires-told b l q r n held range g a e =
+    let s : Node = source (q .pins) in
+    let t : Node = target (q .pins) in
+    let c : AnswersIn (q .mode) (gridWith (l .size .w) (l .size .h) (joined (blocksTo (l .size .clearance) wires (l .items)))) s t r = rw (flat-held held) at a in
+    let h = routes-of (q .mode) (gridOf (l .size) (l .items)) s t (r .route) (r .xs) (r .ys) (answers-cells (q .mode) (l .size) (l .items) s t r (range .2 .0) c) in
+    wires-by l q g (r .route) (h .turned) (r .xs) (r .ys) n e (h .found) (h .written) (h .xs-are) (h .ys-are)
 
 -- ---- how many corners
 

@@ -17,7 +17,7 @@ use Rattle.paper.specs.Padding.{boardOf, WellFormed}
 use Rattle.paper.specs.Reading.{Reads}
 use Rattle.paper.specs.Answer.{Check, Bars, Closes, BarsNode, verdict, source, target, way, checks, addTo, Outcome, quiet, told, Does, Tells, left, Replies, Fed}
 use Rattle.paper.specs.History.{Call, FedAll, SameItems, Alike}
-use Rattle.paper.specs.Laws.Least.{one-answer}
+use Rattle.paper.specs.Laws.Least.{one-in}
 use Rattle.paper.specs.Laws.Back.{thingOf, layoutOf, held}
 use Rattle.paper.specs.Laws.Read.{one-record}
 use Rattle.paper.specs.Laws.Checks.{one-verdict}
@@ -67,12 +67,12 @@ module _ (z : Size) (ts : List Thing) (k₁ k₂ : List Turn) where
   same-outcome (KeepOut i r) o o′ u p q = ap plain p ∙ sym (ap plain q)
   same-outcome (Lay i n) o o′ u p q =
       ap plain (p .2)
-      ∙ ap (λ w. plain (told n w (addTo (keeping z ts k₁) (wire (i .number) (way n w)))))
-      (one-answer (gridOf z ts) (source n) (target n) (p .0) (q .0) (p .1) (q .1))
+      ∙ ap (λ w. plain (told (n .pins) w (addTo (keeping z ts k₁) (wire (i .number) (way (n .pins) w)))))
+      (one-in (n .mode) (gridOf z ts) (source (n .pins)) (target (n .pins)) (p .0) (q .0) (p .1) (q .1))
       ∙ sym (ap plain (q .2))
   same-outcome (Ask n) o o′ u p q =
       ap plain (p .2)
-      ∙ ap (λ w. plain (told n w (keeping z ts k₁))) (one-answer (gridOf z ts) (source n) (target n) (p .0) (q .0) (p .1) (q .1))
+      ∙ ap (λ w. plain (told (n .pins) w (keeping z ts k₁))) (one-in (n .mode) (gridOf z ts) (source (n .pins)) (target (n .pins)) (p .0) (q .0) (p .1) (q .1))
       ∙ sym (ap plain (q .2))
   same-outcome (TakeOut i) o o′ u p q =
       ap plain (p .3) ∙ ap (λ j. quiet (keeping z (without j ts) [])) (p .2 ∙ sym (q .2)) ∙ sym (ap plain (q .3))

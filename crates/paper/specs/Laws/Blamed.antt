@@ -7,7 +7,7 @@ use mathlib.Core.Logic.{_⊎_, inl, inr, ⊎-elim}
 use mathlib.Core.List.{List, [], _∷_, _++_}
 use Rattle.paper.specs.declared.Board.{Board}
 use Rattle.paper.specs.declared.Id.{Id}
-use Rattle.paper.specs.declared.Pins.{Pins}
+use Rattle.paper.specs.declared.Question.{Question}
 use Rattle.paper.specs.declared.Reply.{Reply}
 use Rattle.paper.specs.declared.Verdict.{Verdict}
 use Rattle.paper.specs.declared.Record.{Record}
@@ -69,20 +69,20 @@ module _ (l : Layout) where
 
   -- ---- every list
 
-  pins : (p : Pins) → Each (Blamed (l .items)) (pinChecks l p)
+  pins : (q : Question) → Each (Blamed (l .items)) (pinChecks l q)
   unfolding Each
-  pins p = (
+  pins q = (
     plainly 9 (low 9 (omega arith)),
     (
       plainly 10 (low 10 (omega arith)),
       (
-        naming 11 1 (inl refl) (inl refl) keep-outs (source p),
+        naming 11 1 (inl refl) (inl refl) keep-outs (source (q .pins)),
         (
-          naming 18 1 (inr refl) (inl refl) wires (source p),
+          naming 18 1 (inr refl) (inl refl) wires (source (q .pins)),
           (
-            naming 11 2 (inl refl) (inr refl) keep-outs (target p),
+            naming 11 2 (inl refl) (inr refl) keep-outs (target (q .pins)),
             (
-              naming 18 2 (inr refl) (inr refl) wires (target p),
+              naming 18 2 (inr refl) (inr refl) wires (target (q .pins)),
               (plainly 12 (high 12 (omega arith) (omega arith)), (plainly 13 (high 13 (omega arith) (omega arith)), tt)),
             ),
           ),
@@ -91,12 +91,12 @@ module _ (l : Layout) where
     ),
   )
 
-  abbrev room : Id → Pins → List Check
-  room i p = (14 if TheWire l p (λ w. TooManyBlocks l (wire (i .number) (way p w)))) ∷ []
+  abbrev room : Id → Question → List Check
+  room i q = (14 if TheWire l q (λ w. TooManyBlocks l (wire (i .number) (way (q .pins) w)))) ∷ []
 
-  last : (i : Id) (p : Pins) → Each (Blamed (l .items)) (room i p)
+  last : (i : Id) (q : Question) → Each (Blamed (l .items)) (room i q)
   unfolding Each
-  last i p = (plainly 14 (high 14 (omega arith) (omega arith)), tt)
+  last i q = (plainly 14 (high 14 (omega arith) (omega arith)), tt)
 
   each : (rec : Record) (n : ℕ) → Each (Blamed (l .items)) (checks l rec n)
   unfolding Each checks
@@ -112,14 +112,14 @@ module _ (l : Layout) where
       ),
     ),
   )
-  each (Lay i p) n = (
+  each (Lay i q) n = (
     plainly 2 (low 2 (omega arith)),
     (
       plainly 16 (high 16 (omega arith) (omega arith)),
-      (plainly 4 (low 4 (omega arith)), each-join (Blamed (l .items)) (pinChecks l p) (room i p) (pins p) (last i p)),
+      (plainly 4 (low 4 (omega arith)), each-join (Blamed (l .items)) (pinChecks l q) (room i q) (pins q) (last i q)),
     ),
   )
-  each (Ask p) n = (plainly 2 (low 2 (omega arith)), (plainly 16 (high 16 (omega arith) (omega arith)), pins p))
+  each (Ask q) n = (plainly 2 (low 2 (omega arith)), (plainly 16 (high 16 (omega arith) (omega arith)), pins q))
   each (TakeOut i) n = (plainly 2 (low 2 (omega arith)), (plainly 5 (low 5 (omega arith)), tt))
   each Undo n = (plainly 2 (low 2 (omega arith)), (plainly 15 (high 15 (omega arith) (omega arith)), tt))
 

@@ -57,7 +57,7 @@ near-far tab p q k (inr n) (inr f) = inr (omega arith)
 unfoldable pub dirsb : (Dir → Bool) → Bool
 dirsb f = f E && f N && f W && f S
 
-says-dirs : {f : Dir → Bool} {P : Dir → Type 0} → ((d : Dir) → Says (f d) (P d)) → Says (dirsb f) ((d : Dir) → P d)
+pub says-dirs : {f : Dir → Bool} {P : Dir → Type 0} → ((d : Dir) → Says (f d) (P d)) → Says (dirsb f) ((d : Dir) → P d)
 unfolding dirsb
 says-dirs each =
     says-as (λ h. elim [ E ↦ h .0 | N ↦ h .1 | W ↦ h .2 | S ↦ h .3 ]) (λ f. (f E, f N, f W, f S)) (says-and₄ (each E) (each N) (each W) (each S))

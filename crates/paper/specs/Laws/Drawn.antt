@@ -11,7 +11,7 @@ use Rattle.paper.specs.declared.Board.{Board}
 use Rattle.paper.specs.declared.Judged.{Judged}
 use Rattle.paper.specs.Limits.{most-runs}
 use Rattle.paper.specs.Grid.{Node, Dir, step, Axis, level, upright, Grid, Area, Block, Hits, Any, All, Blocked}
-use Rattle.paper.specs.Wire.{Legal, Answered, ToGo, turns, corners, between, runs}
+use Rattle.paper.specs.Wire.{Legal, ToGo, turns, corners, between, runs}
 use Rattle.paper.specs.Layout.{Thing, keep-out, wire, Sort, keep-outs, wires, blocksOf, blocksTo, gridOf, OnBoard, Along, across, Turning, lastOf, EndsDiffer, Layout, Laid, Sound}
 use Rattle.paper.specs.Padding.{Holds, WellFormed}
 use Rattle.paper.specs.Answer.{plain, Gives, Bars, flat}
@@ -21,13 +21,13 @@ use Rattle.paper.specs.Laws.Tests.{on-board-says}
 use Rattle.paper.specs.Laws.Lists.{any-split, any-left, any-right}
 use Rattle.paper.specs.Laws.Checks.{one-verdict, Coded, coded-join, Clear, clear-of, of-clear, clear-join, clear-split}
 use Rattle.paper.specs.Laws.Back.{one-layout, length-runs}
-use Rattle.paper.specs.Laws.Steps.{free-inside}
+use Rattle.paper.specs.Laws.Steps.{free-inside, Least}
 use Rattle.paper.specs.Laws.Apart.{blocked-left}
-use Rattle.paper.specs.Laws.Traced.{OpenBox, open-boxes, passed-all, answered-fits}
+use Rattle.paper.specs.Laws.Traced.{OpenBox, open-boxes, passed-all, least-fits}
 use Rattle.paper.specs.Laws.Joins.{joined, open-joined}
-use Rattle.paper.specs.Laws.Seams.{legal-joined, answered-joined, run-in, run-out}
+use Rattle.paper.specs.Laws.Seams.{legal-joined, least-joined, run-in, run-out}
 use Rattle.paper.specs.Laws.Next.{laid}
-use Rattle.paper.specs.Laws.Told.{answered-to-go}
+use Rattle.paper.specs.Laws.Told.{least-to-go}
 use Rattle.paper.specs.Laws.Bent.{by-turns, turning-shape, shape-coded}
 use Rattle.paper.specs.Laws.Walked.{word, long-corners, last-turns}
 
@@ -261,12 +261,11 @@ legal-accepted l L s t v legal two few turn r j =
     let x = exceeds (gridOf (l .size) (l .items)) s t v (r .excess) legal (rw (drawn-flat (corners s v) .0) at (j .accepted (ap (λ v. v .code) e))) in
     (e, x .0, x .1, x .2)
 
--- the answered wire, drawn, exceeds by nothing
-pub answered-no-excess : (l : Layout) → Laid l → (s t : Node) (v : List Dir) → Answered (gridOf (l .size) (l .items)) s t v → ¬ (s ≡ t)
+-- a shortest wire, drawn, exceeds by nothing: so the answered one, in either mode (`in-least`)
+pub least-no-excess : (l : Layout) → Laid l → (s t : Node) (v : List Dir) → Least (gridOf (l .size) (l .items)) s t v → ¬ (s ≡ t)
     → length (runs (corners s v)) ≤ most-runs → (r : Judged) → JudgedOn l (flat (corners s v)) r → r ≡ record { code = 0; run = 0; excess = 0 }
-answered-no-excess l L s t v a two few r j =
-    let by = answered-joined (l .size) (l .items) s t v (L .range .2 .0) .0 a in
-    let w = answered-fits (l .size) (shut l) s t v (open-shut l L) by two few in
-    let x = legal-accepted l L s t v (a .legal) two few (w .turning) r j in
-    let z : r .excess ≡ 0 = omega (arith, x .3, one-to-go _ t s (x .1) (length v) (x .2) (answered-to-go (gridOf (l .size) (l .items)) s t v a)) in
+least-no-excess l L s t v a two few r j =
+    let w = least-fits (l .size) (shut l) s t v (open-shut l L) (least-joined (l .size) (l .items) s t v (L .range .2 .0) a) two few in
+    let x = legal-accepted l L s t v (a .0) two few (w .turning) r j in
+    let z : r .excess ≡ 0 = omega (arith, x .3, one-to-go _ t s (x .1) (length v) (x .2) (least-to-go (gridOf (l .size) (l .items)) s t v a)) in
     λ i. record { code = x .0 i .code; run = x .0 i .place; excess = z i }

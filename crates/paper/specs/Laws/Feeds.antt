@@ -5,16 +5,16 @@ use mathlib.Core.Path.{refl, subst}
 use mathlib.Core.Bool.{Bool, true, false, cond}
 use mathlib.Core.Logic.{inl, inr}
 use mathlib.Core.List.{List, [], _∷_}
-use Rattle.paper.specs.declared.Pins.{Pins}
+use Rattle.paper.specs.declared.Question.{Question}
 use Rattle.paper.specs.declared.Board.{Board}
 use Rattle.paper.specs.declared.Reply.{Reply}
 use Rattle.paper.specs.declared.Verdict.{Verdict}
 use Rattle.paper.specs.Grid.{Dir}
-use Rattle.paper.specs.Wire.{Answered}
+use Rattle.paper.specs.Wire.{AnsweredIn}
 use Rattle.paper.specs.Layout.{gridOf, Layout}
 use Rattle.paper.specs.Padding.{WellFormed}
 use Rattle.paper.specs.Answer.{plain, Check, _if_, _unless_, Gives, source, target, TheWire, flat, Fed}
-use Rattle.paper.specs.Laws.Least.{one-answer}
+use Rattle.paper.specs.Laws.Least.{one-in}
 use Rattle.paper.specs.Laws.Says.{Says, says-as}
 
 -- ---- the first code that applies, by a test of each condition
@@ -34,10 +34,10 @@ gives-unless {b = true} n k cs p rest = inr (p .fact tt, rest (p .fact tt))
 gives-unless {b = false} n k cs p rest = inl (p .test, refl)
 
 -- what a test says of the one answered wire
-pub the-wire-says : (l : Layout) (p : Pins) (P : List Dir → Type 0) (v : List Dir) {b : Bool}
-    → Answered (gridOf (l .size) (l .items)) (source p) (target p) v → Says b (P v) → Says b (TheWire l p P)
-the-wire-says l p P v a =
-    says-as (λ h. (v, a, h)) (λ t. subst P (one-answer (gridOf (l .size) (l .items)) (source p) (target p) (t .0) v (t .1) a) (t .2))
+pub the-wire-says : (l : Layout) (q : Question) (P : List Dir → Type 0) (v : List Dir) {b : Bool}
+    → AnsweredIn (q .mode) (gridOf (l .size) (l .items)) (source (q .pins)) (target (q .pins)) v → Says b (P v) → Says b (TheWire l q P)
+the-wire-says l q P v a =
+    says-as (λ h. (v, a, h)) (λ t. subst P (one-in (q .mode) (gridOf (l .size) (l .items)) (source (q .pins)) (target (q .pins)) (t .0) v (t .1) a) (t .2))
 
 -- ---- a refusal
 

@@ -7,6 +7,7 @@ use mathlib.Core.Logic.{inl, inr, ⊎-elim}
 use mathlib.Core.List.{List, _∷_}
 use lib.ListN.{length}
 use Rattle.paper.specs.declared.Pins.{Pins}
+use Rattle.paper.specs.declared.Question.{Question}
 use Rattle.paper.specs.declared.Id.{Id}
 use Rattle.paper.specs.declared.Rect.{Rect}
 use Rattle.paper.specs.declared.Board.{Board}
@@ -15,21 +16,23 @@ use Rattle.paper.specs.declared.Record.{Record}
 use Rattle.paper.specs.declared.Record.the-variants.{Bounds, KeepOut, Lay, Ask, TakeOut, Undo, Malformed}
 use Rattle.paper.specs.Limits.{most-runs}
 use Rattle.paper.specs.Grid.{Node, level, upright, Dir, Block, All, Blocked, gridWith}
-use Rattle.paper.specs.Wire.{Answered, runs}
+use Rattle.paper.specs.Wire.{AnsweredIn, runs}
 use Rattle.paper.specs.Layout.{keep-out, wire, Sort, keep-outs, wires, areas, InSeam, Seamed, Seamless, blocksTo, gridOf, ThingFits, Layout, Laid, Sound}
 use Rattle.paper.specs.Padding.{Holds, WellFormed}
 use Rattle.paper.specs.Reading.{Plain, Reads}
 use Rattle.paper.specs.Answer.{Closes, verdict, source, target, way, checks, addTo, Outcome, Does, Replies, Fed}
 use Rattle.paper.specs.Copper.{OnWire, Inside}
+use Rattle.paper.specs.Laws.Steps.{Least}
+use Rattle.paper.specs.Laws.Least.{in-least}
 use Rattle.paper.specs.Laws.Read.{read-plain}
 use Rattle.paper.specs.Laws.Lists.{all-imp, all-none, none-all, any-imp}
 use Rattle.paper.specs.Laws.Covering.{seamed-more, seamless-fewer, wire-covers}
 use Rattle.paper.specs.Laws.Apart.{blocked-left, wire-apart, keep-out-apart}
 use Rattle.paper.specs.Laws.Checks.{Spared}
 use Rattle.paper.specs.Laws.Joins.{joins, joined, open-joined}
-use Rattle.paper.specs.Laws.Seams.{answered-joined, run-in, runs-outside}
+use Rattle.paper.specs.Laws.Seams.{least-joined, run-in, runs-outside}
 use Rattle.paper.specs.Laws.Next.{Spares, spares, laid, laid-add, laid-take, laid-undo, laid-empty}
-use Rattle.paper.specs.Laws.Traced.{OpenBox, answered-turning, open-boxes, answered-clear, answered-fits}
+use Rattle.paper.specs.Laws.Traced.{OpenBox, least-turning, open-boxes, least-clear, least-fits}
 
 -- ---- by kind
 
@@ -40,27 +43,27 @@ blocksIn l = blocksTo (l .size .clearance) wires (l .items)
 open-blocks : (l : Layout) → Laid l → All OpenBox (joined (blocksIn l))
 open-blocks l L = open-joined (blocksIn l) (open-boxes (l .size) (l .size .clearance) (l .items) (L .range .2 .0) (L .fits .two .each))
 
-by-blocks : (l : Layout) (p : Pins) (w : List Dir) → Laid l → Answered (gridOf (l .size) (l .items)) (source p) (target p) w
-    → Answered (gridWith (l .size .w) (l .size .h) (joined (blocksIn l))) (source p) (target p) w
-by-blocks l p w L a = answered-joined (l .size) (l .items) (source p) (target p) w (L .range .2 .0) .0 a
+by-blocks : (l : Layout) (p : Pins) (w : List Dir) → Laid l → Least (gridOf (l .size) (l .items)) (source p) (target p) w
+    → Least (gridWith (l .size .w) (l .size .h) (joined (blocksIn l))) (source p) (target p) w
+by-blocks l p w L a = least-joined (l .size) (l .items) (source p) (target p) w (L .range .2 .0) a
 
--- an answered wire on a board that is laid is blocked nowhere
-pub laid-joined : (l : Layout) (p : Pins) (w : List Dir) → Laid l → Answered (gridOf (l .size) (l .items)) (source p) (target p) w
+-- a shortest wire on a board that is laid is blocked nowhere
+pub laid-joined : (l : Layout) (p : Pins) (w : List Dir) → Laid l → Least (gridOf (l .size) (l .items)) (source p) (target p) w
     → All (λ r. ¬ (Blocked (joined (blocksIn l)) r)) (runs (way p w))
 laid-joined l p w L a =
-    answered-clear (l .size .w) (l .size .h) (joined (blocksIn l)) (source p) (target p) w (open-blocks l L) (by-blocks l p w L a)
+    least-clear (l .size .w) (l .size .h) (joined (blocksIn l)) (source p) (target p) w (open-blocks l L) (by-blocks l p w L a)
 
-pub laid-clear : (l : Layout) (p : Pins) (w : List Dir) → Laid l → Answered (gridOf (l .size) (l .items)) (source p) (target p) w
+pub laid-clear : (l : Layout) (p : Pins) (w : List Dir) → Laid l → Least (gridOf (l .size) (l .items)) (source p) (target p) w
     → All (λ r. ¬ (Blocked (blocksTo (l .size .clearance) wires (l .items)) r)) (runs (way p w))
 laid-clear l p w L a =
     all-imp _ _ (λ r n h. n (blocked-left (blocksIn l) (joins (blocksIn l)) r h)) (runs (way p w)) (laid-joined l p w L a)
 
-pub laid-outside : (l : Layout) (p : Pins) (w : List Dir) (n : ℕ) (q : Node) → Laid l → Answered (gridOf (l .size) (l .items)) (source p) (target p) w
+pub laid-outside : (l : Layout) (p : Pins) (w : List Dir) (n : ℕ) (q : Node) → Laid l → Least (gridOf (l .size) (l .items)) (source p) (target p) w
     → OnWire n q (way p w) → ¬ (Inside n q (l .items))
 laid-outside l p w n q L a o =
     let clear = all-imp _ (λ r. ¬ (InSeam (l .items) r)) (λ r f h. f (run-in (l .size .clearance) (l .items) (L .range .2 .0) level r h)) (runs (way p w)) (laid-joined l p w L a) in
     ⊎-elim (λ t. runs-outside (l .items) n q level (runs (way p w)) t clear o) (λ t. runs-outside (l .items) n q upright (runs (way p w)) t clear o)
-    (answered-turning (l .size .w) (l .size .h) (joined (blocksIn l)) (source p) (target p) w (open-blocks l L) (by-blocks l p w L a))
+    (least-turning (l .size .w) (l .size .h) (joined (blocksIn l)) (source p) (target p) w (open-blocks l L) (by-blocks l p w L a))
 
 -- a wire that is blocked nowhere goes along no seam, and no other does because of it
 wire-seamless : (l : Layout) (i : ℕ) (ps : List Node) → Laid l → All (λ r. ¬ (Blocked (joined (blocksIn l)) r)) (runs ps)
@@ -83,18 +86,20 @@ keep-out-seamless l i r n = (λ s. other (s .0), none-all (Seamed (keep-out i r 
     other : _≡_ {A = Sort} keep-outs wires → ⊥
     other e = let z : _≡_ {A = ℕ} 0 1 = ap (λ s. elim s [ keep-outs ↦ 0 | wires ↦ 1 ]) e in omega arith
 
-next-lay : (l : Layout) (i : Id) (p : Pins) (n : ℕ) (w : List Dir) → Sound l → 1 ≤ i .number → Spares l (Lay i p) n
-    → Answered (gridOf (l .size) (l .items)) (source p) (target p) w → Laid (addTo l (wire (i .number) (way p w)))
+next-lay : (l : Layout) (i : Id) (q : Question) (n : ℕ) (w : List Dir) → Sound l → 1 ≤ i .number → Spares l (Lay i q) n
+    → AnsweredIn (q .mode) (gridOf (l .size) (l .items)) (source (q .pins)) (target (q .pins)) w → Laid (addTo l (wire (i .number) (way (q .pins) w)))
 unfolding Spared checks
-next-lay l i p n w s one h a =
+next-lay l i q n w s one h a =
+    let p : Pins = q .pins in
+    let b = in-least (q .mode) (gridOf (l .size) (l .items)) (source p) (target p) w a in
     let L : Laid l = laid l s (h 2) in
     let few : length (runs (way p w)) ≤ most-runs
-    = let k : ¬ (most-runs < length (runs (way p w))) = λ q. h 13 (w, a, q) in omega arith in
-    let f = answered-fits (l .size) (joined (blocksIn l)) (source p) (target p) w (open-blocks l L) (by-blocks l p w L a) (h 10) few in
+    = let k : ¬ (most-runs < length (runs (way p w))) = λ k. h 13 (w, a, k) in omega arith in
+    let f = least-fits (l .size) (joined (blocksIn l)) (source p) (target p) w (open-blocks l L) (by-blocks l p w L b) (h 10) few in
     laid-add l (wire (i .number) (way p w)) L (h 4) (unfold ThingFits in (one, f))
-    (wire-apart (l .size .clearance) (i .number) (way p w) (l .items) (laid-clear l p w L a))
-    (wire-seamless l (i .number) (way p w) L (laid-joined l p w L a))
-    (λ q. h 14 (w, a, q))
+    (wire-apart (l .size .clearance) (i .number) (way p w) (l .items) (laid-clear l p w L b))
+    (wire-seamless l (i .number) (way p w) L (laid-joined l p w L b))
+    (λ k. h 14 (w, a, k))
 
 pub next : (l : Layout) (rec : Record) (n : ℕ) (o : Outcome) → Sound l → Plain rec → Spares l rec n → Does l rec o → Sound (o .layout)
 unfolding Does Plain Sound Spared checks
@@ -104,8 +109,8 @@ next l (KeepOut i r) n o z m h d =
     rw d (inr (laid-add l (keep-out (i .number) r) (laid l z (h 2)) (h 4) (unfold ThingFits in (m, h 6))
     (keep-out-apart l (i .number) r (h 7) (λ e. h 8 (inl e)))
     (keep-out-seamless l (i .number) r (λ e. h 8 (inr e))) (h 14)))
-next l (Lay i p) n o z m h d = rw (d .2) (inr (next-lay l i p n (d .0) z m h (d .1)))
-next l (Ask p) n o z m h d = rw (d .2) z
+next l (Lay i q) n o z m h d = rw (d .2) (inr (next-lay l i q n (d .0) z m h (d .1)))
+next l (Ask q) n o z m h d = rw (d .2) z
 next l (TakeOut i) n o z m h d = rw (d .3) (inr (laid-take l (d .0) (laid l z (h 2)) (d .1)))
 next l Undo n o z m h d = rw (d .3) (inr (laid-undo l (d .0) (d .1) (laid l z (h 2)) (d .2)))
 

@@ -11,6 +11,7 @@ use lib.ListN.{length}
 use Rattle.paper.specs.declared.Mode.{Mode}
 use Rattle.paper.specs.declared.Mode.the-variants.{Plain, Fewest}
 use Rattle.paper.specs.Grid.{Node, Dir, E, N, W, S, rank, step, Grid, Free}
+use Rattle.paper.specs.Laws.Steps.{Least}
 use Rattle.paper.specs.Wire.{Legal, First, Answered, runsOf, Straightest, AnsweredIn}
 
 -- ---- one answer
@@ -41,6 +42,10 @@ one-straightest G s t w v p q =
 pub one-in : (m : Mode) (G : Grid) (s t : Node) (w v : List Dir) → AnsweredIn m G s t w → AnsweredIn m G s t v → w ≡ v
 one-in Plain = one-answer
 one-in Fewest = one-straightest
+
+pub in-least : (m : Mode) (G : Grid) (s t : Node) (w : List Dir) → AnsweredIn m G s t w → Least G s t w
+in-least Plain G s t w a = (a .legal, a .shortest)
+in-least Fewest G s t w a = (a .legal, a .shortest)
 
 pub in-legal : (m : Mode) (G : Grid) (s t : Node) (w : List Dir) → AnsweredIn m G s t w → Legal G s t w
 in-legal Plain G s t w a = a .legal

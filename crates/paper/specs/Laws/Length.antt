@@ -10,10 +10,10 @@ use lib.ListN.{length, length-map}
 use lib.Dec.{eqb}
 use Rattle.paper.specs.Limits.{most-side}
 use Rattle.paper.specs.Grid.{Grid, Node, Dir, step, All, Pairs}
-use Rattle.paper.specs.Wire.{Legal, Answered}
+use Rattle.paper.specs.Wire.{Legal}
 use Rattle.paper.specs.Laws.Lists.{all-imp}
 use Rattle.paper.specs.Laws.Among.{eqb-cases}
-use Rattle.paper.specs.Laws.Steps.{Inside, free-inside, Shortest}
+use Rattle.paper.specs.Laws.Steps.{Inside, free-inside, Shortest, Least}
 
 -- ---- distinct numbers below n are at most n
 
@@ -126,13 +126,13 @@ unfolding All
 places-below [] a = tt
 places-below (p ∷ ps) a = (omega (arith, a .0), places-below ps (a .1))
 
-pub length-fits : (G : Grid) (s t : Node) (w : List Dir) → G .wide ≤ most-side → G .high ≤ most-side → Inside G s → Answered G s t w → length w ≤ 900060000
+pub length-fits : (G : Grid) (s t : Node) (w : List Dir) → G .wide ≤ most-side → G .high ≤ most-side → Inside G s → Least G s t w → length w ≤ 900060000
 length-fits G s t w hw hh i a =
     let small : All Small (trail s w)
-    = all-imp (Inside G) Small (λ p k. (omega (arith, k .0), omega (arith, k .1))) (trail s w) (trail-inside G t s w i (a .legal)) in
+    = all-imp (Inside G) Small (λ p k. (omega (arith, k .0), omega (arith, k .1))) (trail s w) (trail-inside G t s w i (a .0)) in
     omega (
       arith,
       trail-length s w,
       length-map (trail s w) place,
-      pigeons 900060001 (map place (trail s w)) (places-apart (trail s w) small (trail-apart G t s w (a .legal) (a .shortest))) (places-below (trail s w) small),
+      pigeons 900060001 (map place (trail s w)) (places-apart (trail s w) small (trail-apart G t s w (a .0) (a .1))) (places-below (trail s w) small),
     )

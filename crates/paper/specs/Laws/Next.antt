@@ -22,7 +22,7 @@ use Rattle.paper.specs.Laws.Covering.{seamless-add, seamless-without}
 
 -- ---- code 0: none of the checks applies
 
-checks-coded : (l : Layout) (rec : Record) (n : ℕ) → Coded (checks l rec n)
+pub checks-coded : (l : Layout) (rec : Record) (n : ℕ) → Coded (checks l rec n)
 unfolding Coded checks
 checks-coded l Malformed n = omega arith
 checks-coded l (Bounds s) n = omega arith

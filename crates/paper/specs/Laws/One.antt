@@ -16,7 +16,7 @@ use Rattle.paper.specs.Padding.{boardOf, WellFormed}
 use Rattle.paper.specs.Answer.{verdict, source, target, way, checks, addTo, takeFrom, Outcome, quiet, told, Does, Tells, Accepted, left, Replies, Fed}
 use Rattle.paper.specs.Laws.Checks.{one-verdict}
 use Rattle.paper.specs.Laws.Lists.{all-has}
-use Rattle.paper.specs.Laws.Least.{one-answer}
+use Rattle.paper.specs.Laws.Least.{one-in}
 use Rattle.paper.specs.Laws.Back.{one-layout}
 use Rattle.paper.specs.Laws.Read.{one-record}
 
@@ -41,10 +41,10 @@ one-outcome l Malformed o o′ z p q = absurd p
 one-outcome l (Bounds b) o o′ z p q = p ∙ sym q
 one-outcome l (KeepOut i r) o o′ z p q = p ∙ sym q
 one-outcome l (Lay i n) o o′ z p q =
-    p .2 ∙ ap (λ w. told n w (addTo l (wire (i .number) (way n w)))) (one-answer (gridOf (l .size) (l .items)) (source n) (target n) (p .0) (q .0) (p .1) (q .1))
+    p .2 ∙ ap (λ w. told (n .pins) w (addTo l (wire (i .number) (way (n .pins) w)))) (one-in (n .mode) (gridOf (l .size) (l .items)) (source (n .pins)) (target (n .pins)) (p .0) (q .0) (p .1) (q .1))
     ∙ sym (q .2)
 one-outcome l (Ask n) o o′ z p q =
-    p .2 ∙ ap (λ w. told n w l) (one-answer (gridOf (l .size) (l .items)) (source n) (target n) (p .0) (q .0) (p .1) (q .1)) ∙ sym (q .2)
+    p .2 ∙ ap (λ w. told (n .pins) w l) (one-in (n .mode) (gridOf (l .size) (l .items)) (source (n .pins)) (target (n .pins)) (p .0) (q .0) (p .1) (q .1)) ∙ sym (q .2)
 one-outcome l (TakeOut i) o o′ z p q =
     p .3 ∙ ap (λ t. quiet (takeFrom l t)) (one-item (l .items) (p .0) (q .0) (sound-rising l z) (p .1) (q .1) (p .2 ∙ sym (q .2))) ∙ sym (q .3)
 one-outcome l Undo o o′ z p q =

@@ -14,6 +14,7 @@ use Rattle.paper.specs.Grid.{Node, Dir, step, Axis, level, upright, Area
 use Rattle.paper.specs.Wire.{runs, Legal, Answered, AnsweredIn}
 use Rattle.paper.specs.Layout.{Thing, keep-out, wire, wires, keep-outs, sortOf, rectangle, areas, blocksOf, blocksTo, Along, across, Turning, ThingFits, Seamed, Covers, Covered, beside, Sealed, PartOf, InSeam, gridOf}
 use Rattle.paper.specs.Copper.{On, Inside}
+use Rattle.paper.specs.Laws.Steps.{Least}
 use Rattle.paper.specs.Laws.Opens.{legal-more, answered-alike}
 use Rattle.paper.specs.Laws.Lists.{all-imp, any-imp, any-right, any-split}
 use Rattle.paper.specs.Laws.Traced.{HasPoint, OpenBox}
@@ -64,6 +65,10 @@ legal-joined z ts s t v h = (
   legal-more (z .w) (z .h) _ _ (λ a p. open-iff z ts a p h .0) s t v,
   legal-more (z .w) (z .h) _ _ (λ a p. open-iff z ts a p h .1) s t v,
 )
+
+pub least-joined : (z : Size) (ts : List Thing) (s t : Node) (v : List Dir) → 1 ≤ z .clearance
+    → Least (gridOf z ts) s t v → Least (gridWith (z .w) (z .h) (joined (blocksTo (z .clearance) wires ts))) s t v
+least-joined z ts s t v h a = (legal-joined z ts s t v h .0 (a .0), λ u k. a .1 u (legal-joined z ts s t u h .1 k))
 
 pub in-joined : (m : Mode) (z : Size) (ts : List Thing) (s t : Node) (v : List Dir) → 1 ≤ z .clearance
     → AnsweredIn m (gridOf z ts) s t v ↔ AnsweredIn m (gridWith (z .w) (z .h) (joined (blocksTo (z .clearance) wires ts))) s t v

@@ -70,6 +70,10 @@ free-inside G p S f = omega (arith, south p (f .0), f .1 .0, f .1 .1)
 abbrev pub Shortest : Grid → Node → Node → List Dir → Type 0
 Shortest G s t w = (v : List Dir) → Legal G s t v → length w ≤ length v
 
+-- legal and as short as any
+abbrev pub Least : Grid → Node → Node → List Dir → Type 0
+Least G s t w = Legal G s t w × Shortest G s t w
+
 -- the word, after a step in the direction, never turns back
 unfoldable pub Forward : Dir → List Dir → Type 0
 Forward d [] = Unit {0}

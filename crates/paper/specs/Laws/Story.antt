@@ -15,7 +15,7 @@ use Rattle.paper.specs.Padding.{boardOf, Holds, WellFormed}
 use Rattle.paper.specs.Reading.{Reads}
 use Rattle.paper.specs.Answer.{verdict, source, target, way, checks, changed, Outcome, Does, Accepted, Replies, Fed}
 use Rattle.paper.specs.History.{Past, start, becomes, Passes, Call, FedAll, Moves, Story}
-use Rattle.paper.specs.Laws.Least.{one-answer}
+use Rattle.paper.specs.Laws.Least.{one-in}
 use Rattle.paper.specs.Laws.Back.{layoutOf, held, one-layout}
 use Rattle.paper.specs.Laws.Read.{one-record}
 use Rattle.paper.specs.Laws.Among.{without-add, add-without}
@@ -53,9 +53,9 @@ passes l Malformed n o z h d = d
 passes l (Bounds b) n o z h d = rw d
 passes l (KeepOut i r) n o z h d =
     rw d (past-keep l _ _ (unfold undo in without-add (keep-out (i .number) r) (l .items) (h 4)))
-passes l (Lay i p) n o z h d =
-    (d .0, d .1, rw (d .2) (past-keep l _ _ (unfold undo in without-add (wire (i .number) (way p (d .0))) (l .items) (h 4))))
-passes l (Ask p) n o z h d = rw (d .2)
+passes l (Lay i q) n o z h d =
+    (d .0, d .1, rw (d .2) (past-keep l _ _ (unfold undo in without-add (wire (i .number) (way (q .pins) (d .0))) (l .items) (h 4))))
+passes l (Ask q) n o z h d = rw (d .2)
 passes l (TakeOut i) n o z h d =
     rw (d .3, ← d .2) (past-keep l _ _ (unfold undo in add-without (d .0) (l .items) (laid l z (h 2) .fits .two .rising) (d .1)))
 passes l Undo n o z h d =
@@ -69,8 +69,8 @@ one-past h Malformed h₁ h₂ p q = absurd p
 one-past h (Bounds b) h₁ h₂ p q = p ∙ sym q
 one-past h (KeepOut i r) h₁ h₂ p q = p ∙ sym q
 one-past h (Lay i n) h₁ h₂ p q =
-    p .2 ∙ ap (λ w. becomes h (add (wire (i .number) (way n w)) (h .now)))
-    (one-answer (gridOf (h .size) (h .now)) (source n) (target n) (p .0) (q .0) (p .1) (q .1)) ∙ sym (q .2)
+    p .2 ∙ ap (λ w. becomes h (add (wire (i .number) (way (n .pins) w)) (h .now)))
+    (one-in (n .mode) (gridOf (h .size) (h .now)) (source (n .pins)) (target (n .pins)) (p .0) (q .0) (p .1) (q .1)) ∙ sym (q .2)
 one-past h (Ask n) h₁ h₂ p q = p ∙ sym q
 one-past h (TakeOut i) h₁ h₂ p q = p ∙ sym q
 one-past h Undo h₁ h₂ p q =

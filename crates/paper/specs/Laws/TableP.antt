@@ -10,6 +10,8 @@ use mathlib.Core.List.{List}
 use lib.ListN.{length}
 use lib.Dec.{T, ltb, eqb}
 use Rattle.paper.specs.declared.Pins.{Pins}
+use Rattle.paper.specs.declared.Mode.the-variants as mode
+use Rattle.paper.specs.declared.Question.{Question}
 use Rattle.paper.specs.declared.Record.the-variants.{Ask}
 use Rattle.paper.specs.Limits.{most-runs, least-slice}
 use Rattle.paper.specs.Grid.{Node, Dir, Block, All, Pairs, node}
@@ -35,7 +37,11 @@ use Rattle.paper.specs.Laws.Feeds.{gives-none, gives-if, gives-unless, t
 abbrev blocksIn : Row → List Block
 blocksIn r = blocksTo (r .clearance) wires (r .items)
 
-reads : (p : Pins) → Reads (asking p) (Ask p)
+-- kind 4 asks for the first of the shortest
+abbrev plainly : Pins → Question
+plainly p = record { pins = p; mode = mode.Plain }
+
+reads : (p : Pins) → Reads (asking p) (Ask (plainly p))
 unfolding Reads Plain fieldsOf
 reads p =
     inl (record {
@@ -147,7 +153,7 @@ module _ (r : Row) (tab : Table) (v : List Dir) where
   routed-wire : 1 ≤ r .clearance → T routedb → ¬ (look tab here ≡ 0) → Answered (gridOf (layoutIn r .size) (r .items)) here there v
   routed-wire c t some = answered-joined (layoutIn r .size) (r .items) here there v c .1 (by-table 10 10 (joined (blocksIn r)) tab here there v t some)
 
-  gives : (n : ℕ) → least-slice ≤ n → 1 ≤ r .clearance → Pairs Below (r .items) → T routedb → Gives (checks (layoutIn r) (Ask (r .pins)) n) verdictIn
+  gives : (n : ℕ) → least-slice ≤ n → 1 ≤ r .clearance → Pairs Below (r .items) → T routedb → Gives (checks (layoutIn r) (Ask (plainly (r .pins))) n) verdictIn
   unfolding checks verdictIn
   gives n fits c rising routed =
       let none = routed-none c routed in
@@ -161,7 +167,7 @@ module _ (r : Row) (tab : Table) (v : List Dir) where
       gives-naming _ _ (bars-node-says keep-outs there) (named 11 2) _ 11 2 _ _ rising (λ j. refl) λ c.
       gives-naming _ _ (bars-node-says wires there) (named 18 2) _ 18 2 _ _ rising (λ j. refl) λ d.
       gives-if 12 _ _ (says-as (none .0) (none .1) (says-eq _ _)) λ some.
-      gives-if 13 _ _ (the-wire-says (layoutIn r) (r .pins) (TooManyRuns (r .pins)) v (wire (λ z. some (none .0 z))) (says-le _ _)) λ few.
+      gives-if 13 _ _ (the-wire-says (layoutIn r) (plainly (r .pins)) (TooManyRuns (r .pins)) v (wire (λ z. some (none .0 z))) (says-le _ _)) λ few.
       gives-none
 
   record Passed : Type 0 where
@@ -195,7 +201,7 @@ module _ (r : Row) (tab : Table) (v : List Dir) where
   stands p s fits =
       inr (
         layoutIn r,
-        Ask (r .pins),
+        Ask (plainly (r .pins)),
         record { sound = p .sound; same = refl },
         reads (r .pins),
         record {

@@ -13,11 +13,11 @@ use lib.Dec.{eqb}
 use Rattle.paper.specs.declared.Size.{Size}
 use Rattle.paper.specs.Limits.{most-runs}
 use Rattle.paper.specs.Grid.{Node, Dir, E, N, W, S, rank, step, Axis, level, upright, Grid, Edge, Free, Area, Span, Meets, Block, widened, Hits, Any, All, Blocked, edge, gridWith}
-use Rattle.paper.specs.Wire.{Legal, Answered, turns, corners, between, runs}
+use Rattle.paper.specs.Wire.{Legal, turns, corners, between, runs}
 use Rattle.paper.specs.Layout.{Thing, keep-out, wire, wires, areas, blocksOf, blocksTo, Along, Turning, lastOf, EndsDiffer, WireFits, ThingFits}
 use Rattle.paper.specs.Laws.Lists.{all-join}
 use Rattle.paper.specs.Laws.Back.{length-runs}
-use Rattle.paper.specs.Laws.Steps.{axisOf, back, onward, west, south, Inside, free-inside, Forward, forward}
+use Rattle.paper.specs.Laws.Steps.{axisOf, back, onward, west, south, Inside, free-inside, Forward, forward, Least}
 
 -- ---- a run of two parts is blocked where one of its parts is
 
@@ -204,40 +204,40 @@ unfolding All blocksTo
 open-boxes s c [] h a = tt
 open-boxes s c (t ∷ ts) h a = all-join OpenBox (blocksOf c wires t) (blocksTo c wires ts) (open-thing s c t h (a .0)) (open-boxes s c ts h (a .1))
 
--- ---- the answered wire
+-- ---- a shortest wire
 
 pub either : (a : Axis) (rs : List Area) → Turning a rs → Turning level rs ⊎ Turning upright rs
 either level rs h = inl h
 either upright rs h = inr h
 
 -- its runs are blocked nowhere
-pub answered-clear : (w h : ℕ) (bs : List Block) (s t : Node) (v : List Dir) → All OpenBox bs → Answered (gridWith w h bs) s t v
+pub least-clear : (w h : ℕ) (bs : List Block) (s t : Node) (v : List Dir) → All OpenBox bs → Least (gridWith w h bs) s t v
     → All (λ r. ¬ (Blocked bs r)) (runs (corners s v))
 unfolding Legal corners
-answered-clear w h bs s t [] o a = unfold All runs in tt
-answered-clear w h bs s t (d ∷ v) o a = passed-all w h bs t o s d v (a .legal) .clear
+least-clear w h bs s t [] o a = unfold All runs in tt
+least-clear w h bs s t (d ∷ v) o a = passed-all w h bs t o s d v (a .0) .clear
 
 -- they go along the axes by turns
-pub answered-turning : (w h : ℕ) (bs : List Block) (s t : Node) (v : List Dir) → All OpenBox bs → Answered (gridWith w h bs) s t v
+pub least-turning : (w h : ℕ) (bs : List Block) (s t : Node) (v : List Dir) → All OpenBox bs → Least (gridWith w h bs) s t v
     → Turning level (runs (corners s v)) ⊎ Turning upright (runs (corners s v))
 unfolding Legal corners Turning runs
-answered-turning w h bs s t [] o a = inl tt
-answered-turning w h bs s t (d ∷ v) o a =
-    let f : Free (gridWith w h bs) s d = a .legal .0 in
+least-turning w h bs s t [] o a = inl tt
+least-turning w h bs s t (d ∷ v) o a =
+    let f : Free (gridWith w h bs) s d = a .0 .0 in
     either (axisOf d) (runs (s ∷ turns d (step d s) v))
-    (turning w h bs t o d s (step d s) v (straight-first (gridWith w h bs) d s f) (a .legal .1) (forward (gridWith w h bs) s t d v (a .legal) (a .shortest)))
+    (turning w h bs t o d s (step d s) v (straight-first (gridWith w h bs) d s f) (a .0 .1) (forward (gridWith w h bs) s t d v (a .0) (a .1)))
 
 -- its corners make a wire that fits on the board
-pub answered-fits : (z : Size) (bs : List Block) (s t : Node) (v : List Dir) → All OpenBox bs
-    → Answered (gridWith (z .w) (z .h) bs) s t v → ¬ (s ≡ t) → length (runs (corners s v)) ≤ most-runs → WireFits z (corners s v)
+pub least-fits : (z : Size) (bs : List Block) (s t : Node) (v : List Dir) → All OpenBox bs
+    → Least (gridWith (z .w) (z .h) bs) s t v → ¬ (s ≡ t) → length (runs (corners s v)) ≤ most-runs → WireFits z (corners s v)
 unfolding Legal corners
-answered-fits z bs s t [] o a n few = absurd (n (a .legal))
-answered-fits z bs s t (d ∷ v) o a n few =
-    let r = passed-all (z .w) (z .h) bs t o s d v (a .legal) in
+least-fits z bs s t [] o a n few = absurd (n (a .0))
+least-fits z bs s t (d ∷ v) o a n few =
+    let r = passed-all (z .w) (z .h) bs t o s d v (a .0) in
     record {
       ends = unfold EndsDiffer in (λ e. n (e ∙ r .last));
       some = omega (arith, length-runs s (turns d (step d s) v), r .some);
       few = few;
-      turning = answered-turning (z .w) (z .h) bs s t (d ∷ v) o a;
-      on = unfold All in (free-inside (gridWith (z .w) (z .h) bs) s d (a .legal .0) .0, r .inside);
+      turning = least-turning (z .w) (z .h) bs s t (d ∷ v) o a;
+      on = unfold All in (free-inside (gridWith (z .w) (z .h) bs) s d (a .0 .0) .0, r .inside);
     }

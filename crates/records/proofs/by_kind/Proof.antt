@@ -1,7 +1,8 @@
 -- `records::by_kind` meets its contract: each arm is its row.
 -- Assumes nothing.
+use mathlib.Core.Logic.{inl, inr, ⊎-elim}
 use borrow.Author.Needs.{needs}
-use Rattle.records.specs.Laws.{row-zero, row-rest}
+use Rattle.records.specs.Laws.{row-zero, row-seven, row-rest}
 use Rattle.records.proofs.by_kind.Statement.{statement}
 use Rattle.records.proofs.by_kind.Tie as tie
 
@@ -23,6 +24,12 @@ take-out-requires c κs = search needs
 undo-requires : tie.Need-undo-requires
 undo-requires c κs = search needs
 
+ask-requires-2 : tie.Need-ask-requires-2
+ask-requires-2 c κs = search needs
+
+lay-requires-2 : tie.Need-lay-requires-2
+lay-requires-2 c κs = search needs
+
 returns : tie.Need-returns
 returns c = rw (c .before .match .keys1) (c .bounds .ensures)
 
@@ -42,10 +49,20 @@ returns-6 : tie.Need-returns-6
 returns-6 c = rw (c .before .match .keys6) (c .undo .ensures)
 
 returns-7 : tie.Need-returns-7
-returns-7 c = rw (c .match .keys7) (row-zero _)
+returns-7 c = rw (c .before .match .keys7) (c .ask2 .ensures)
 
 returns-8 : tie.Need-returns-8
-returns-8 c = let r = c .match .rest in row-rest _ _ (r .1) (r .0 .0 .0 .0 .0 .0 .1) (r .0 .0 .0 .0 .0 .1) (r .0 .0 .0 .0 .1) (r .0 .0 .0 .1) (r .0 .0 .1) (r .0 .1)
+returns-8 c = rw (c .before .match .keys8) (c .lay2 .ensures)
+
+returns-9 : tie.Need-returns-9
+returns-9 c = ⊎-elim (λ e. rw e (row-zero _)) (λ e. rw e (row-seven _)) (c .match .keys9)
+
+returns-10 : tie.Need-returns-10
+returns-10 c =
+    let r = c .match .rest in
+    let s = r .0 in
+    row-rest _ _ (λ e. r .1 (inl e)) (s .0 .0 .0 .0 .0 .0 .0 .1) (s .0 .0 .0 .0 .0 .0 .1) (s .0 .0 .0 .0 .0 .1) (s .0 .0 .0 .0 .1) (s .0 .0 .0 .1) (s .0 .0 .1)
+    (λ e. r .1 (inr e)) (s .0 .1) (s .1)
 
 pub by-kind-spec : {M : Type 1} → statement M
-by-kind-spec = tie.close (tie.spec bounds-requires keep-out-requires lay-requires ask-requires take-out-requires undo-requires returns returns-2 returns-3 returns-4 returns-5 returns-6 returns-7 returns-8)
+by-kind-spec = tie.close (tie.spec bounds-requires keep-out-requires lay-requires ask-requires take-out-requires undo-requires ask-requires-2 lay-requires-2 returns returns-2 returns-3 returns-4 returns-5 returns-6 returns-7 returns-8 returns-9 returns-10)

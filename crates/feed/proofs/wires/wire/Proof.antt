@@ -16,25 +16,25 @@ use Rattle.feed.proofs.wires.wire.Statement.{statement}
 use Rattle.feed.proofs.wires.wire.Tie as tie
 
 -- what is said of the pins on this board
-pins-said : (h : tie.After-pins-stop) → let s = h .before .before .args in PinsSaid (layoutOf (s .board)) (s .p) (h .pins-stop .result)
+pins-said : (h : tie.After-pins-stop) → let s = h .before .before .before .args in PinsSaid (layoutOf (s .board)) (s .q .pins) (h .pins-stop .result)
 unfolding StopsPins layoutOf
 pins-said h =
-    let s = h .before .before in
+    let s = h .before .before .before in
     h .pins-stop .ensures (layoutOf (s .args .board)) refl (h .before .of-board .ensures)
     (sound-rising (layoutOf (s .args .board)) (well-formed _ (s .pre .0) .sound))
 
 -- no item: a code alone
-pins-plain : (e : tie.Else1) → let h = e .before .before in let s = h .before .before .args in
-    Gives (startChecks (layoutOf (s .board)) (s .p)) (plain (h .pins-stop .result .code))
+pins-plain : (e : tie.Else1) → let h = e .before .before in let s = h .before .before .before .args in
+    Gives (startChecks (layoutOf (s .board)) (s .q .pins)) (plain (h .pins-stop .result .code))
 pins-plain e = said-plain _ _ _ (pins-said (e .before .before)) (e .if1 .left)
 
 of-board-requires : tie.Need-of-board-requires
-of-board-requires c κs = drawn _ (c .pre .0)
+of-board-requires c κs = drawn _ (c .before .pre .0)
 
 pins-stop-requires : tie.Need-pins-stop-requires
 unfolding layoutOf
 pins-stop-requires c κs =
-    let b = c .before in
+    let b = c .before .before in
     let range = laid-now _ (b .pre .0) (λ z. omega (arith, z, b .pre .1)) .range in
     (held-fits (c .of-board .ensures), omega (arith, range .0 .1), omega (arith, range .1 .1))
 
@@ -42,7 +42,7 @@ id-at-requires : tie.Need-id-at-requires
 id-at-requires c κs =
     let i = c .before in
     let h = i .before .before in
-    omega (arith, said-item _ _ _ (pins-said h) (i .if1 .taken) .1, well-standing _ (h .before .before .pre .0) .items-few)
+    omega (arith, said-item _ _ _ (pins-said h) (i .if1 .taken) .1, well-standing _ (h .before .before .before .pre .0) .items-few)
 
 verdict-requires : tie.Need-verdict-requires
 verdict-requires c κs = search needs
@@ -55,10 +55,10 @@ returns c =
     let i = c .before .before in
     let f = i .before .before in
     let h = f .before .before in
-    let s = h .before .before in
+    let s = h .before .before .before in
     let g = said-item _ _ _ (pins-said h) (f .if1 .taken) in
     let e = i .id-at .ensures ∙ id-at _ (well-standing _ (s .pre .0)) _ _ (g .1) in
-    subst (Wires (layoutOf (s .args .board)) (s .args .p)) (sym (c .no-wire .ensures ∙ ap noWire (c .before .verdict .ensures ∙ ap (named _ _) e)))
+    subst (Wires (layoutOf (s .args .board)) (s .args .q)) (sym (c .no-wire .ensures ∙ ap noWire (c .before .verdict .ensures ∙ ap (named _ _) e)))
     (refused-start _ _ _ (g .0) (g .2))
 
 verdict-requires-2 : tie.Need-verdict-requires-2
@@ -71,8 +71,8 @@ returns-2 : tie.Need-returns-2
 returns-2 c =
     let f = c .before .before in
     let e = f .before .before in
-    let s = e .before .before .before .before .args in
-    subst (Wires (layoutOf (s .board)) (s .p)) (sym (c .no-wire2 .ensures ∙ ap noWire (c .before .verdict2 .ensures)))
+    let s = e .before .before .before .before .before .args in
+    subst (Wires (layoutOf (s .board)) (s .q)) (sym (c .no-wire2 .ensures ∙ ap noWire (c .before .verdict2 .ensures)))
     (refused-start _ _ _ (f .if2 .taken) (pins-plain e))
 
 find-wire-requires : tie.Need-find-wire-requires
@@ -80,7 +80,7 @@ unfolding layoutOf
 find-wire-requires c κs =
     let e = c .before .before in
     let o = e .before .before .before in
-    let b = o .before in
+    let b = o .before .before in
     wire-asks _ (layoutOf (b .args .board)) _ (o .of-board .ensures) (laid-now _ (b .pre .0) (λ z. omega (arith, z, b .pre .1)) .range)
     (start-clear _ _ _ (c .if2 .left) (pins-plain e))
 
@@ -99,8 +99,8 @@ returns-3 c =
     let f = c .before .before in
     let e = f .before .before .before in
     let o = e .before .before .before in
-    let b = o .before in
-    subst (Wires (layoutOf (b .args .board)) (b .args .p)) (sym (c .tell .ensures))
+    let b = o .before .before in
+    subst (Wires (layoutOf (b .args .board)) (b .args .q)) (sym (c .tell .ensures))
     (wires-told _ (layoutOf (b .args .board)) _ _ _ (o .of-board .ensures) (laid-now _ (b .pre .0) (λ z. omega (arith, z, b .pre .1)) .range)
     (start-clear _ _ _ (f .before .if2 .left) (pins-plain e)) (f .find-wire .ensures)
     (count-held (o .of-board .ensures)))
