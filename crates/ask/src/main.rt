@@ -3,6 +3,8 @@
 // The file is numbers of 16 bits, the low byte first: how many questions, how often to ask them all, then the questions. Each is 238 numbers:
 // W, H, sx, sy, tx, ty, how many blocks, 1 where the fewest runs are asked for and else 0, and 46 rows of x0, y0, x1, y1, c. What is printed
 // is a sum over all the answers.
+#![tactic(auto)]
+
 ghost use Rattle.std.specs.Prelude.{◌+◌, ◌≤◌, ◌<◌, ◌≡◌, T};
 ghost use Rattle.paper.specs.Grid.{Blocked, node};
 ghost use Rattle.paper.specs.Layout.{InRange, OnBoard};

@@ -1,4 +1,6 @@
 // The turns that a wire still has to make, at each crossing where a shortest wire from s may come: found by recursion over ways that lead nearer.
+#![tactic(auto)]
+
 ghost use Rattle.std.specs.Prelude.{◌≡◌, ◌+◌, ◌*◌, ◌<◌, min, set};
 ghost use Rattle.paper.specs.Grid.{level, upright};
 ghost use Rattle.paper.specs.Laws.Steps.{axis_of};

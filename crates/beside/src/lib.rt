@@ -1,4 +1,6 @@
 // A board and the index of its items, kept together; and the crowding sheet of a board.
+#![tactic(auto)]
+
 ghost use Rattle.std.specs.Prelude.{◌≡◌, true};
 ghost use Rattle.paper.specs.Padding.{WellFormed};
 ghost use Rattle.paper.specs.Answer.{plain, Fed};
@@ -14,7 +16,7 @@ use paper::{Board, Reply};
 use soundness::sound;
 
 // What a fed record gives back: the reply, with its board, and the index beside that.
-#[derive(Drop)]
+#[derive(Clone, Copy)]
 pub struct Kept {
     pub reply: Reply,
     pub index: Index,

@@ -1,4 +1,6 @@
 // The blocks of a board's items as flat arrays, and the scan for the first item that blocks a place.
+#![tactic(auto)]
+
 ghost use Rattle.std.specs.Prelude.{◌≡◌, ◌<◌, ◌≤◌, min, max, [], ◌∷◌};
 ghost use Rattle.paper.specs.Limits.{most_blocks, most_runs};
 ghost use Rattle.paper.specs.Grid.{Meets, Blocked};
@@ -14,7 +16,7 @@ use paper::{Board, Item, MOST_BLOCKS};
 
 // The blocks of at most 46 items, in the items' order. Those of item i stand from first[i] up to first[i + 1].
 // Block k is the area from (x0[k], y0[k]) to (x1[k], y1[k]), widened by c[k] on all four sides. Places not used hold 0.
-#[derive(Drop)]
+#[derive(Clone, Copy)]
 pub struct Blocks {
     pub items: usize,
     pub first: [usize; MOST_BLOCKS + 1],
@@ -27,7 +29,7 @@ pub struct Blocks {
 }
 
 // A node, a unit edge, a run or a rectangle, by its low and its high corner.
-#[derive(Drop)]
+#[derive(Clone, Copy)]
 pub struct Place {
     pub x0: u16,
     pub y0: u16,
@@ -36,14 +38,14 @@ pub struct Place {
 }
 
 // Which items count.
-#[derive(Drop)]
+#[derive(Clone, Copy)]
 pub enum Look {
     KeepOuts,
     Wires,
     Either,
 }
 
-#[derive(Drop)]
+#[derive(Clone, Copy)]
 pub enum Found {
     At(usize),
     Nothing,

@@ -1,6 +1,7 @@
 // Runs further cases: `stdin` is a long file of random records of every style, `stdout` what the bench's second router printed for it.
 //
 // That router was written apart from these crates and searches in other ways. `bench cases` makes both files.
+#![tactic(auto)]
 
 fn main() {
     printer::run();

@@ -7,6 +7,8 @@
 // `bad` where a piece is cut short or has another letter; `cut` where input is left after 65,535 pieces.
 //
 // What a piece does, which line it gets and which word comes last is proved; which bytes a system call moves is assumed.
+#![tactic(auto)]
+
 mod lines;
 mod pieces;
 mod turns;
@@ -17,7 +19,7 @@ use paper::Board;
 use turns::print;
 
 // The word of the last line.
-#[derive(Drop)]
+#[derive(Clone, Copy)]
 enum Last {
     End,
     Bad,
@@ -25,7 +27,7 @@ enum Last {
 }
 
 // Whether the printing goes on: it does, or it is over, or a read failed, or a write did.
-#[derive(Drop)]
+#[derive(Clone, Copy)]
 enum Stop {
     Going,
     Over(Last),
@@ -34,7 +36,7 @@ enum Stop {
 }
 
 // What a piece leaves: how many bytes its line has, the drawn wires so far, and the board.
-#[derive(Drop)]
+#[derive(Clone, Copy)]
 struct Done {
     written: usize,
     wires: u32,
@@ -42,7 +44,7 @@ struct Done {
 }
 
 // Where the printing stands: the pieces and the drawn wires so far, the bytes that wait in the buffer, and the board.
-#[derive(Drop)]
+#[derive(Clone, Copy)]
 struct Place {
     pieces: u32,
     wires: u32,
@@ -50,14 +52,14 @@ struct Place {
     board: Board,
 }
 
-#[derive(Drop)]
+#[derive(Clone, Copy)]
 struct Turn {
     place: Place,
     stop: Stop,
 }
 
 // Where a line begins in the buffer, unless those before it could not be written.
-#[derive(Drop)]
+#[derive(Clone, Copy)]
 enum Spare {
     At(usize),
     Unwritten,

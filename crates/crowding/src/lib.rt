@@ -1,4 +1,6 @@
 // The index of a board's items: the tracks, and which of their edges are open.
+#![tactic(auto)]
+
 ghost use Rattle.std.specs.Prelude.{◌≡◌, ◌+◌, ◌-◌, ◌<◌, ◌≤◌};
 ghost use Rattle.blocks.specs.Flat.{listed};
 ghost use Rattle.paper.specs.Grid.{grid_with};

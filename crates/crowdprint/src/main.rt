@@ -5,6 +5,8 @@
 // 65,535 records.
 //
 // What stands in the buffer when it is written is proved (specs/Crowded.antt); which bytes a system call moves is assumed.
+#![tactic(auto)]
+
 ghost use Rattle.std.specs.Prelude.{◌≡◌, List, ℕ, ◌+◌, ◌*◌, ◌≤◌, ◌<◌, length};
 ghost use Rattle.text.specs.Text.{Puts, Writes};
 ghost use Rattle.sheet.specs.Sheet.{most_records};
@@ -24,7 +26,7 @@ use text::{put_byte, put_next, put_number};
 // ---- feeding
 
 // What the records leave: how many they are, the board, and the index beside it.
-#[derive(Drop)]
+#[derive(Clone, Copy)]
 struct Left {
     records: usize,
     board: Board,

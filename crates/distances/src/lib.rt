@@ -1,4 +1,6 @@
 // The distance still to go at each crossing: lowered from t on, found even or settled, and cut off where s lies.
+#![tactic(auto)]
+
 mod cut;
 mod even;
 mod settle;
@@ -30,7 +32,7 @@ fn cost(shut: u8, width: u32) -> u32
 }
 
 // The lines of one axis: `slabs` + 1 of them, `along` apart, each with `count` crossings, `step` apart.
-#[derive(Drop)]
+#[derive(Clone, Copy)]
 struct Lines {
     pub slabs: usize,
     pub along: usize,

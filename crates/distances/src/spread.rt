@@ -28,7 +28,7 @@ fn mark(marks: &mut [usize; 192], line: usize, k: usize)
 }
 
 // Crossings of a line, from `low` to before `high`.
-#[derive(Drop)]
+#[derive(Clone, Copy)]
 struct Part {
     pub low: usize,
     pub high: usize,

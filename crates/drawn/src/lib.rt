@@ -1,4 +1,6 @@
 // A wire drawn by hand, told by its corners: the first check that it fails, or by how many steps it is longer than a shortest one.
+#![tactic(auto)]
+
 mod corners;
 
 ghost use Rattle.std.specs.Prelude.{◌≡◌, ℕ, ◌+◌, ◌<◌, ◌≤◌};

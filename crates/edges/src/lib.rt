@@ -1,4 +1,6 @@
 // Which ways between neighbouring crossings are shut: marked block by block and for each two that share a side, a rectangle of marks each.
+#![tactic(auto)]
+
 ghost use Rattle.std.specs.Prelude.{◌≡◌, length};
 ghost use Prim.Native.Nat.{◌+◌, ◌*◌, ◌<◌, ◌≤◌};
 ghost use Rattle.edges.specs.Ranges.{Rising, Below, Meeting};
@@ -9,21 +11,21 @@ use blocks::Place;
 use seams::{Joined, join};
 
 // From one track up to another, which is not in it.
-#[derive(Drop)]
+#[derive(Clone, Copy)]
 pub struct Range {
     pub from: usize,
     pub to: usize,
 }
 
 // Both ranges that an open interval meets on one axis: the slabs, told by their low track, whose first unit it meets, and the tracks that lie in it.
-#[derive(Drop)]
+#[derive(Clone, Copy)]
 pub struct Both {
     pub slabs: Range,
     pub tracks: Range,
 }
 
 // The area from (x0, y0) to (x1, y1), widened by c on all four sides.
-#[derive(Drop)]
+#[derive(Clone, Copy)]
 pub struct Box {
     pub x0: u16,
     pub y0: u16,

@@ -1,4 +1,6 @@
 // One record fed to one board: the codes in their order, and what an accepted record does.
+#![tactic(auto)]
+
 mod answers;
 mod quiet;
 mod tests;
@@ -35,7 +37,7 @@ fn told(board: Board, code: u8) -> Reply
 // ---- wires
 
 // What the pins get: a code, with 11 and 18 the pin and the item; with code 0 the wire and how many blocks the board has.
-#[derive(Drop)]
+#[derive(Clone, Copy)]
 struct Wired {
     code: u8,
     pin: u8,

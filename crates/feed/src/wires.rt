@@ -17,7 +17,7 @@ use router::{Route, Routed, find_wire};
 use seams::round;
 
 // What stands in the way of two pins: a code, with 11 and 18 the pin and the place of the item among the board's; code 0 where nothing does.
-#[derive(Drop)]
+#[derive(Clone, Copy)]
 struct Stop {
     code: u8,
     pin: u8,

@@ -1,4 +1,6 @@
 // The index that is kept beside a board, one bit an edge between neighbouring tracks; and the crowding sheet that is read from it.
+#![tactic(auto)]
+
 ghost use Rattle.std.specs.Prelude.{◌≡◌, ◌≤◌};
 ghost use Rattle.paper.specs.Laws.Says.{Says};
 ghost use Rattle.tracks.specs.Tracks.{most_tracks};
@@ -9,14 +11,14 @@ use tracks::Tracks;
 
 // The edges of one track between neighbouring tracks across it, one bit each, set if the whole edge is open: edge k is bit k of
 // `low`, from 64 on bit k - 64 of `high`.
-#[derive(Drop)]
+#[derive(Clone, Copy)]
 pub struct Edges {
     pub low: u64,
     pub high: u64,
 }
 
 // The tracks of the items alone, and the edges of each. Places not used hold 0.
-#[derive(Drop)]
+#[derive(Clone, Copy)]
 pub struct Index {
     pub x: Tracks,
     pub y: Tracks,
@@ -26,7 +28,7 @@ pub struct Index {
 
 // How many upright and level tracks there are, and for each, upright ones first, where it stands, how many of its edges are open
 // and how many of them in a row from its low end on.
-#[derive(Drop)]
+#[derive(Clone, Copy)]
 pub struct Crowding {
     pub code: u8,
     pub upright: usize,

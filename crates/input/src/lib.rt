@@ -1,12 +1,14 @@
 // Standard input, read into a lent room. A library, since more than one program does it.
 //
 // Which bytes a system call moves is assumed; that they lie within the room is proved.
+#![tactic(auto)]
+
 ghost use Rattle.std.specs.Prelude.{◌≤◌, length};
 
 use libc::STDIN_FILENO;
 
 // How many bytes were read, and whether a read failed.
-#[derive(Drop)]
+#[derive(Clone, Copy)]
 pub struct Input {
     pub size: usize,
     pub failed: bool,

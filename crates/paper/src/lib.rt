@@ -1,5 +1,6 @@
 // The paper's things as values: a board with its items and kept changes, a record as it was read, a reply.
 // What they mean is in specs/; what stands in unused places is in specs/Padding.antt.
+#![tactic(auto)]
 
 // At most 24 runs to a wire, so 25 corners, and 50 numbers to write them.
 pub const MOST_RUNS: usize = 24;
@@ -13,14 +14,14 @@ pub const MOST_BLOCKS: usize = 46;
 pub const MOST_KEPT: usize = 32;
 
 // W, H and the clearance; three zeros before any bounds.
-#[derive(Drop)]
+#[derive(Clone, Copy)]
 pub struct Size {
     pub w: u16,
     pub h: u16,
     pub clearance: u16,
 }
 
-#[derive(Drop)]
+#[derive(Clone, Copy)]
 pub struct Rect {
     pub x0: u16,
     pub y0: u16,
@@ -28,7 +29,7 @@ pub struct Rect {
     pub y1: u16,
 }
 
-#[derive(Drop)]
+#[derive(Clone, Copy)]
 pub struct Pins {
     pub sx: u16,
     pub sy: u16,
@@ -36,27 +37,27 @@ pub struct Pins {
     pub ty: u16,
 }
 
-#[derive(Drop)]
+#[derive(Clone, Copy)]
 pub struct Id {
     pub number: u16,
 }
 
 // Which of the shortest wires is answered: the first, or of those with the fewest runs the first.
-#[derive(Drop)]
+#[derive(Clone, Copy)]
 pub enum Mode {
     Plain,
     Fewest,
 }
 
 // What is asked of a wire.
-#[derive(Drop)]
+#[derive(Clone, Copy)]
 pub struct Question {
     pub pins: Pins,
     pub mode: Mode,
 }
 
 // A record as it was read.
-#[derive(Drop)]
+#[derive(Clone, Copy)]
 pub enum Record {
     Bounds(Size),
     KeepOut(Id, Rect),
@@ -68,7 +69,7 @@ pub enum Record {
 }
 
 // A keep-out has no runs and two corners, (x0, y0) and (x1, y1). A wire has a corner more than runs.
-#[derive(Drop)]
+#[derive(Clone, Copy)]
 pub struct Item {
     pub id: u16,
     pub runs: u8,
@@ -77,14 +78,14 @@ pub struct Item {
 }
 
 // An accepted keep-out, lay or take-out, by its kind, and its item.
-#[derive(Drop)]
+#[derive(Clone, Copy)]
 pub struct Change {
     pub kind: u8,
     pub item: Item,
 }
 
 // Items stand by rising id, kept changes oldest first. An item is a block or more.
-#[derive(Drop)]
+#[derive(Clone, Copy)]
 pub struct Board {
     pub size: Size,
     pub count: usize,
@@ -94,7 +95,7 @@ pub struct Board {
 }
 
 // What is said: a code, the run or the pin that it is about, counted from 1, and an item's id; 0 where none is named.
-#[derive(Drop)]
+#[derive(Clone, Copy)]
 pub struct Verdict {
     pub code: u8,
     pub place: u8,
@@ -103,7 +104,7 @@ pub struct Verdict {
 
 // `pin`, `id`: with 11 and 18 the pin, 1 or 2, and the item that blocks it; else 0.
 // `corners`: how many corners stand in the answer slice, 0 unless a lay or an ask was accepted.
-#[derive(Drop)]
+#[derive(Clone, Copy)]
 pub struct Reply {
     pub code: u8,
     pub pin: u8,
@@ -115,7 +116,7 @@ pub struct Reply {
 }
 
 // What is said of a wire drawn by hand: the first bad run, counted from 1; or by how many steps it is longer than a shortest one.
-#[derive(Drop)]
+#[derive(Clone, Copy)]
 pub struct Judged {
     pub code: u8,
     pub run: u8,

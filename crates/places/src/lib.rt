@@ -1,5 +1,7 @@
 // What stands in the way of a wire, told by its corners: the first run that is ill shaped, off the board, in a keep-out or too near to a
 // laid wire. It asks no search, so that document 02's order 7 can test a wire that is only read.
+#![tactic(auto)]
+
 ghost use Rattle.std.specs.Prelude.{ℕ, ◌<◌, ◌≤◌};
 ghost use Rattle.paper.specs.Limits.{most_runs, most_corners};
 ghost use Rattle.paper.specs.Layout.{OnBoard};

@@ -2,6 +2,8 @@
 //
 // What stands in the buffer when it is written is proved (specs/Filled.antt, by the steps of crates/sheet); which bytes a system call moves is
 // assumed.
+#![tactic(auto)]
+
 ghost use Rattle.std.specs.Prelude.{◌≡◌, ◌≤◌, length};
 ghost use Rattle.printer.specs.Filled.{Within, Fills, AllPrinted, HoldsLast};
 
@@ -22,7 +24,7 @@ fn file_room() -> [u8; 786421]
 // ---- printing
 
 // Where the printing stands: the place in the file, the records before it, the bytes that wait in the buffer, and the board.
-#[derive(Drop)]
+#[derive(Clone, Copy)]
 struct Place {
     at: usize,
     records: u32,

@@ -1,4 +1,6 @@
 // The twelve-byte record: the bytes that are handed in, a part of a file's slice, to the enum.
+#![tactic(auto)]
+
 ghost use Rattle.std.specs.Prelude.{◌≡◌, ◌+◌, ◌<◌, length};
 ghost use Rattle.paper.specs.Reading.{word, lay_kind, ask_kind, Reads};
 ghost use Rattle.records.specs.Row.{asked, Row, SaysBlank};
@@ -6,7 +8,7 @@ ghost use Rattle.records.specs.Row.{asked, Row, SaysBlank};
 use paper::{Id, Mode, Pins, Question, Record, Rect, Size};
 
 // The id and the four numbers a b c d.
-#[derive(Drop)]
+#[derive(Clone, Copy)]
 struct Numbers {
     id: u16,
     a: u16,

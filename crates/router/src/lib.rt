@@ -1,4 +1,6 @@
 // From blocks and two pins to the answered wire.
+#![tactic(auto)]
+
 ghost use Rattle.std.specs.Prelude.{◌≡◌, ◌-◌, ◌<◌, ◌≤◌, get_or};
 ghost use Rattle.paper.specs.Grid.{grid_with};
 ghost use Rattle.paper.specs.Wire.{gap, manhattan};
@@ -20,7 +22,7 @@ use trace::{At, left_at, trace, turns_at};
 use tracks::{Tracks, of_axis};
 
 // The wire's length, its detour and how many corners it has; or why there is none to tell, and how long one of too many runs is.
-#[derive(Drop)]
+#[derive(Clone, Copy)]
 pub enum Route {
     Wire(u32, u32, usize),
     NoWire,
@@ -28,7 +30,7 @@ pub enum Route {
 }
 
 // The corners stand beside the answer. Places past the last hold 0, and all do where there is no wire to tell.
-#[derive(Drop)]
+#[derive(Clone, Copy)]
 pub struct Routed {
     pub route: Route,
     pub xs: [u16; 25],

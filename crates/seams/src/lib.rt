@@ -1,4 +1,6 @@
 // Keep-outs that share a side: the rectangle that spans both where they face each other, and what goes across it, so along the seam between them.
+#![tactic(auto)]
+
 ghost use Rattle.std.specs.Prelude.{◌≡◌, ◌<◌, ◌≤◌, min};
 ghost use Rattle.paper.specs.Limits.{most_blocks};
 ghost use Rattle.paper.specs.Grid.{Hits};
@@ -13,7 +15,7 @@ use blocks::{Blocks, Found, Look, Place, hit, lower, meets, scan, upper};
 // ---- two rectangles
 
 // What spans two rectangles where they face each other, if they share a side.
-#[derive(Drop)]
+#[derive(Clone, Copy)]
 pub enum Joined {
     Over(Place),
     Apart,

@@ -1,4 +1,6 @@
 // The shape of one wire, by the corners of its item: its ends, its runs along the axes and each across the one before.
+#![tactic(auto)]
+
 ghost use Rattle.std.specs.Prelude.{◌≡◌, ◌+◌, ◌<◌, ◌≤◌};
 ghost use Rattle.paper.specs.Limits.{most_corners, most_runs};
 ghost use Rattle.paper.specs.Grid.{All};
@@ -15,7 +17,7 @@ use blocks::stretch;
 use paper::{Item, Size};
 
 // What is wrong with a wire: a code and the run that it is about, counted from 1; two zeros where nothing is.
-#[derive(Drop)]
+#[derive(Clone, Copy)]
 pub struct Fault {
     pub code: u8,
     pub run: u8,

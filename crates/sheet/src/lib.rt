@@ -1,4 +1,6 @@
 // The sheet: a line for each record of a file, written into a lent buffer.
+#![tactic(auto)]
+
 ghost use Rattle.std.specs.Prelude.{◌≡◌, [], ◌∷◌, ◌+◌, ◌-◌, ◌*◌, ◌≤◌, ◌<◌, min, length, take};
 ghost use Rattle.text.specs.Text.{Part.number, Part.byte, Writes};
 ghost use Rattle.sheet.specs.Sheet.{corners_in, wire_in, blame_in, line_in, last_line, line_room, StepsIn};
@@ -125,7 +127,7 @@ pub fn start() -> Board
 }
 
 // What a record leaves: the place after it, how many bytes its line has, and the board.
-#[derive(Drop)]
+#[derive(Clone, Copy)]
 pub struct Printed {
     pub next: usize,
     pub written: usize,

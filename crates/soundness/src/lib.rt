@@ -1,4 +1,6 @@
 // Whether a board that is handed in is well formed: any value of the struct at all.
+#![tactic(auto)]
+
 mod kept;
 mod several;
 mod shape;

@@ -1,4 +1,6 @@
 // Text in a lent buffer: bytes, numbers in decimal, and words of three letters, each from a place on; the place after it is returned.
+#![tactic(auto)]
+
 ghost use Rattle.std.specs.Prelude.{◌≡◌, [], ◌∷◌, ◌+◌, ◌≤◌, ◌<◌, length};
 ghost use Rattle.text.specs.Text.{Part.number, Part.byte, Writes};
 

@@ -1,4 +1,6 @@
 // The wire, traced by recursion from s: at each crossing the first of E, N, W, S that is open, nearer by the way and costs what is left for turns.
+#![tactic(auto)]
+
 ghost use Rattle.std.specs.Prelude.{◌≡◌, ◌+◌, ◌-◌, ◌*◌, ◌<◌, ◌≤◌, length, get_or, [], ◌∷◌};
 ghost use Rattle.paper.specs.Grid.{step};
 ghost use Rattle.paper.specs.Laws.Says.{Says};
@@ -9,7 +11,7 @@ ghost use Rattle.trace.specs.Trail.{Nearer, Along, OnAxis, Leads, Fits, FirstWay
 use distances::width;
 
 // The crossing of two tracks.
-#[derive(Drop)]
+#[derive(Clone, Copy)]
 pub struct At {
     pub i: usize,
     pub j: usize,

@@ -1,4 +1,5 @@
 // Reads records on standard input and prints their sheet.
+#![tactic(auto)]
 
 fn main() {
     printer::run();

@@ -19,6 +19,8 @@
 // A record fed prints its number in the trial, code, the pin and the id if not both are 0, length, detour, how many corners, the corners, `same`
 // or `changed` for the board, and `kept` if the numbers past the last corner are the marks that stood there before, else `touched`; where an
 // index is kept, also `same` or `changed` for that. A drawn wire prints `drawn`, its code, run and excess.
+#![tactic(auto)]
+
 mod bytes;
 mod crowd;
 mod lent;
@@ -58,7 +60,7 @@ fn least(n: usize, most: usize) -> usize
 // ---- a trial
 
 // `fed`: how many records so far; `slice`: what was lent last; `beside`: the index is kept.
-#[derive(Drop)]
+#[derive(Clone, Copy)]
 struct Trial {
     board: Board,
     marked: Board,

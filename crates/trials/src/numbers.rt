@@ -4,7 +4,7 @@ ghost use Rattle.std.specs.Prelude.{◌<◌};
 use crate::MOST_NUMBERS;
 
 // `inside`: the byte before was a digit.
-#[derive(Drop)]
+#[derive(Clone, Copy)]
 pub(crate) struct Numbers {
     pub count: usize,
     pub inside: bool,

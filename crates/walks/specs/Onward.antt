@@ -3,7 +3,8 @@
 use Rattle.std.specs.Prelude.{ℕ, zero, suc, ◌+◌, ◌≤◌, ◌<◌, ◌≡◌, refl, ◌⊎◌, List, [], ◌++◌, replicate}
 use Rattle.std.proofs.Math.Decide.{dec_lt, dec_le, ℕ_discrete}
 use Rattle.std.proofs.Common.{arith, sym, ap, subst, inr, ⊎_elim}
-use Rattle.std.proofs.Math.Logic.{by_cases, Dec·and, Dec·of-iff}
+use Rattle.std.proofs.Math.Logic.{by_cases}
+use Rattle.std.proofs.Math.Logic.Dec
 use Rattle.paper.specs.Grid.{Node, Dir, E, N, W, S, rank, step, Axis, level, upright, Grid, Edge, Free}
 use Rattle.paper.specs.Laws.Steps.{axis_of, free_inside}
 use Rattle.paper.specs.Laws.Says.{told}
@@ -19,7 +20,7 @@ use Rattle.walks.specs.Search.{Leads, Searched}
 -- ---- a free way can be told
 
 all_three : {A B C : Type 0} → Dec A → Dec B → Dec C → Dec (A × B × C)
-all_three a b c = Dec·of-iff (λ h. (h.0, h.1.0, h.1.1), λ h. (h.0, (h.1, h.2))) (Dec·and a (Dec·and b c))
+all_three a b c = Dec.of_iff (λ h. (h.0, h.1.0, h.1.1), λ h. (h.0, (h.1, h.2))) (Dec.and a (Dec.and b c))
 
 module _ (G : Grid) (open? : (a : Axis) (p : Node) → Dec (G.Open a p)) where
   edge? : (a : Axis) (p : Node) → Dec (Edge G a p)
@@ -31,8 +32,8 @@ module _ (G : Grid) (open? : (a : Axis) (p : Node) → Dec (G.Open a p)) where
   unfolding Free
   free? p E = edge? level p
   free? p N = edge? upright p
-  free? p W = Dec·and (dec_lt 0 p.x) (edge? level (step W p))
-  free? p S = Dec·and (dec_lt 0 p.y) (edge? upright (step S p))
+  free? p W = Dec.and (dec_lt 0 p.x) (edge? level (step W p))
+  free? p S = Dec.and (dec_lt 0 p.y) (edge? upright (step S p))
 
 each : (Q : Dir → Type 0) → Q E → Q N → Q W → Q S → (d : Dir) → Q d
 each Q e n w s E = e
@@ -122,9 +123,9 @@ module _ (τ : ℕ) (G : Grid) (T : Axis → Tracks) (D : Node → ℕ) (C : Axi
     module _ (sliced : Sliced G T) (open? : (a : Axis) (p : Node) → Dec (G.Open a p)) where
       fits? : (m : Came) (c : ℕ) (q : Node) (d : Dir) → Dec (Fits τ G T D C m c q d)
       fits? m c q d =
-          Dec·of-iff (λ h. record { clear = h.0; nearer = h.1.0; turns = h.1.1 }, λ l. (l.clear, (l.nearer, l.turns)))
-          (Dec·and (free? (crossings T G) (λ a p. open? a (spot T p)) q d)
-          (Dec·and (ℕ_discrete (D (step d q) + far T d q) (D q)) (ℕ_discrete (C (axis_of d) (step d q) + bend τ m (axis_of d)) c)))
+          Dec.of_iff (λ h. record { clear = h.0; nearer = h.1.0; turns = h.1.1 }, λ l. (l.clear, (l.nearer, l.turns)))
+          (Dec.and (free? (crossings T G) (λ a p. open? a (spot T p)) q d)
+          (Dec.and (ℕ_discrete (D (step d q) + far T d q) (D q)) (ℕ_discrete (C (axis_of d) (step d q) + bend τ m (axis_of d)) c)))
 
       home_left : (m : Came) (c : ℕ) → Left g m c → c ≡ 0
       home_left m c (along {a = a} e) = omega (arith, k.home a)

@@ -1,7 +1,7 @@
 -- All together, for a board with blocks as the paper has it: what a search over the tracks finds is the answer on the whole grid.
 -- Assumes nothing.
 use Rattle.std.specs.Prelude.{ℕ, ◌≤◌, ◌<◌, ◌≡◌, refl, List}
-use Rattle.std.proofs.Math.Logic.{Dec·not}
+use Rattle.std.proofs.Math.Logic.Dec
 use Rattle.paper.specs.Grid.{Node, Dir, Axis, level, upright, Block, All, edge, grid_with}
 use Rattle.paper.specs.Wire.{Legal}
 use Rattle.paper.specs.Laws.Says.{told}
@@ -37,7 +37,7 @@ module _ {w h : ℕ} {X Y : Tracks} (rise_x : Rising X w) (rise_y : Rising Y h) 
         (n : ℕ) (begins : Begins C p n) where
       -- there is a trace,
       pub some_route : (v : List Dir) × tables.Trace τ (grid_with w h bs) (tracks X Y) D C q fresh n p v
-      some_route = never_sticks τ (grid_with w h bs) (tracks X Y) D C k laws (λ a r. Dec·not (told (blocked_says bs (edge a r)))) p n seen begins
+      some_route = never_sticks τ (grid_with w h bs) (tracks X Y) D C k laws (λ a r. Dec.not (told (blocked_says bs (edge a r)))) p n seen begins
 
       -- and it is the best wire
       pub route : D p < inf → (v : List Dir) → tables.Trace τ (grid_with w h bs) (tracks X Y) D C q fresh n p v → Best τ (grid_with w h bs) s t v

@@ -1,1 +1,2 @@
 // Theorems only: see specs/Lib.antt.
+#![tactic(auto)]
