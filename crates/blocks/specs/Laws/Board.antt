@@ -11,7 +11,6 @@ use Rattle.paper.specs.declared.Board.{Board}
 use Rattle.paper.specs.declared.Size.{Size}
 use Rattle.paper.specs.Limits.{most_blocks, most_runs}
 use Rattle.paper.specs.Grid.{All, widened}
-use Rattle.paper.specs.Wire.{runs}
 use Rattle.paper.specs.Layout.{Thing, keep_out, wire, keep_outs, wires, areas, blocks_of, blocks_to, block_count, ThingFits, Layout, Sound}
 use Rattle.paper.specs.Padding.{filled, item_of, no_item, board_of, WellFormed}
 use Rattle.paper.specs.Laws.Back.{layout_of, well_formed}

@@ -7,7 +7,7 @@ use Rattle.std.proofs.Math.ListN.{get_or-append}
 use Rattle.std.proofs.Math.Seq.{take-length}
 use Rattle.paper.specs.Limits.{most_blocks}
 use Rattle.paper.specs.Grid.{Block, widened, All}
-use Rattle.paper.specs.Layout.{Thing, keep_out, Sort, areas, sort_of, distance, blocks_of, blocks_to, block_count}
+use Rattle.paper.specs.Layout.{Thing, Sort, areas, sort_of, distance, blocks_of, blocks_to, block_count}
 use Rattle.paper.specs.Laws.Lists.{all_join, all_image, all_always}
 use Rattle.paper.specs.Laws.Apart.{count_blocks}
 use Rattle.paper.specs.Padding.{filled}

@@ -7,12 +7,12 @@ use Rattle.std.proofs.Common.{zero-add, sym, ap, subst, subst₂, ◌∙◌}
 use Rattle.std.specs.Prelude.{◌≡◌, Bool, true, false, cond, length, get_or, eqb}
 use Rattle.std.proofs.Math.Path.{refl, ap₂}
 use Rattle.std.proofs.Math.Logic.{inl, inr}
-use mathlib.Core.List.{List, [], ◌∷◌, map}
+use mathlib.Core.List.{map}
 use Rattle.std.proofs.Math.Dec.{eqb-suc-zero}
 use Rattle.paper.specs.declared.Item.{Item}
 use Rattle.paper.specs.declared.Size.{Size}
 use Rattle.paper.specs.Limits.{most_runs}
-use Rattle.paper.specs.Grid.{Area, Any, Block, widened, Hits, Blocked}
+use Rattle.paper.specs.Grid.{Area, Any, widened, Hits, Blocked}
 use Rattle.paper.specs.Wire.{runs}
 use Rattle.paper.specs.Layout.{Thing, keep_out, wire, Sort, keep_outs, wires, sort_of, areas, distance, blocks_of, Meet, ThingFits}
 use Rattle.paper.specs.Padding.{item_of}

@@ -1,0 +1,18 @@
+-- `blocks::scan` meets its contract: no item before i stops, and what blocks the place among the blocks of item i stands at k or after it.
+use Prim.Native.Nat.{ℕ, ◌-◌, ◌≤◌, ◌<◌}
+use Rattle.paper.specs.Limits.{most_blocks}
+use Rattle.blocks.specs.Flat.{Stops}
+use Rattle.blocks.specs.Laws.Scanned.{Ahead}
+use Rattle.blocks.proofs.scan.Given as goal
+
+abbrev pub invariant-loop-k : goal.invariant-loop-k
+invariant-loop-k l = (l.end ≤ most_blocks) × Ahead l.b l.p l.i l.end l.k
+
+abbrev pub decreases-loop-k : goal.decreases-loop-k
+decreases-loop-k l = l.end - l.k
+
+abbrev pub invariant-scan : goal.invariant-scan
+invariant-scan l = (l.i ≤ l.n) × ((j : ℕ) → j < l.i → ¬ (Stops l.b l.look l.p j))
+
+abbrev pub decreases-scan : goal.decreases-scan
+decreases-scan l = l.n - l.i
