@@ -11,7 +11,7 @@ use Rattle.paper.specs.declared.Rect.{Rect}
 use Rattle.paper.specs.declared.Size.{Size}
 use Rattle.paper.specs.Limits.{most_blocks}
 use Rattle.paper.specs.Grid.{Area, Block, widened, Hits, Any, All, Pairs, Blocked}
-use Rattle.paper.specs.Layout.{Thing, keep_out, wire, Sort, keep_outs, wires, sort_of, rectangle, areas, blocks_of, Apart, ThingFits, Seamless}
+use Rattle.paper.specs.Layout.{Thing, keep_out, wire, Sort, keep_outs, wires, sort_of, areas, blocks_of, Apart, ThingFits, Seamless}
 use Rattle.paper.specs.Laws.Lists.{any_imp, any_elim, any_image, any_back, any_flip}
 use Rattle.paper.specs.Laws.Says.{Says, says_as, says_not}
 use Rattle.paper.specs.Laws.Standing.{no_thing, thing_at}
