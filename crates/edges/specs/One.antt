@@ -1,6 +1,6 @@
 -- The contract of `edges` decides every mark.
 -- Assumes nothing.
-use Rattle.std.specs.Prelude.{ℕ, ◌+◌, ◌*◌, ◌/◌, ◌%◌, ◌≤◌, ◌<◌, ◌≡◌, ◌⊎◌, List, length, get_or}
+use Rattle.std.specs.Prelude.{ℕ, ◌+◌, ◌*◌, ◌/◌, ◌%◌, ◌<◌, ◌≡◌, List, get_or}
 use Rattle.std.proofs.Common.{arith, div-add-mod', mod-lt, sym, ◌∙◌, inl, inr, ⊎_elim, ext_get_or}
 use Rattle.std.proofs.Math.Decide.{dec_lt}
 use Rattle.paper.specs.Grid.{Axis, Block}
