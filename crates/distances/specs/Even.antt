@@ -1,8 +1,8 @@
 -- An even table: no open way lets one end be lowered, below a bound, by way of the other.
 -- Assumes nothing.
-use Rattle.std.specs.Prelude.{ℕ, ◌+◌, ◌-◌, ◌*◌, ◌≤◌, ◌<◌, min, ◌≡◌, refl, Bool, true, false, not, ◌&&◌, List, ◌⊎◌, length, set, replicate, eqb}
+use Rattle.std.specs.Prelude.{ℕ, ◌+◌, ◌-◌, ◌*◌, ◌≤◌, ◌<◌, min, ◌≡◌, refl, Bool, true, false, not, ◌&&◌, List, length, set, replicate}
 use native.Mathlib.Omega.{arith}
-use Rattle.std.proofs.Common.{sym, ◌∙◌, inl, inr, ⊎_elim, length-set}
+use Rattle.std.proofs.Common.{sym, ◌∙◌, ⊎_elim, length-set}
 use Rattle.std.proofs.Math.Path.{subst}
 use Rattle.std.proofs.lemmas.Bool.{false≢true}
 use Rattle.std.proofs.Math.ListN.{get_or, get_or-replicate}

@@ -1,7 +1,7 @@
 -- The table before the search: 0 at t, and nothing else reached. And one table at the most is the table of distances.
 -- Assumes nothing.
 use Rattle.std.specs.Prelude.{ℕ, zero, suc, ◌+◌, ◌*◌, ◌/◌, ◌%◌, ◌≤◌, ◌<◌, ◌≡◌, refl, List, ◌⊎◌, length, get_or, set, replicate}
-use Rattle.std.proofs.Common.{div-add-mod', mod-lt, sym, ◌∙◌, inl, inr, length-set, ext_get_or}
+use Rattle.std.proofs.Common.{div-add-mod', mod-lt, sym, ◌∙◌, inl, inr, ext_get_or}
 use Rattle.std.proofs.Math.Decide.{dec_lt}
 use native.Mathlib.Omega.{arith}
 use Rattle.std.proofs.Math.Logic.{⊎_elim}
