@@ -139,6 +139,7 @@ fn undo(n: Numbers) -> Record
     Record::Malformed
 }
 
+#[tactic(auto, using(crate::specs::Laws::row_zero, crate::specs::Laws::row_seven, crate::specs::Laws::row_rest))]
 fn by_kind(kind: u8, n: Numbers) -> Record
     ensures { Row kind n result }
 {
@@ -156,6 +157,7 @@ fn by_kind(kind: u8, n: Numbers) -> Record
 }
 
 // What the bytes are, whatever they are and however many.
+#[tactic(auto, using(crate::specs::Laws::short, crate::specs::Laws::spoilt, crate::specs::Laws::reads_row))]
 pub fn read(bytes: &[u8]) -> Record
     ensures { Reads bytes.now result }
 {
