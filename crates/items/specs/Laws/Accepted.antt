@@ -1,20 +1,19 @@
 -- The board that an accepted record leaves: an item put in or taken out, and the change kept; or the latest change undone.
 -- Assumes nothing.
-use Rattle.std.specs.Prelude.{ℕ, suc, ◌+◌, ◌-◌, ◌≤◌, ◌<◌, ◌≡◌, refl, List, [], ◌∷◌, length, take}
-use Rattle.std.proofs.Common.{arith, sym, subst₂, ◌∙◌}
+use Rattle.std.specs.Prelude.{ℕ, ◌≤◌, ◌≡◌, refl, List, [], ◌∷◌, length, take}
+use Rattle.std.proofs.Common.{arith, sym, ◌∙◌}
 use Rattle.std.proofs.Math.Path.{ap, ap₂, subst}
 use Rattle.paper.specs.declared.Item.{Item}
 use Rattle.paper.specs.declared.Change.{Change}
 use Rattle.paper.specs.declared.Board.{Board}
-use Rattle.paper.specs.Limits.{most_blocks, most_kept}
+use Rattle.paper.specs.Limits.{most_kept}
 use Rattle.paper.specs.Grid.{All}
 use Rattle.paper.specs.Layout.{Thing, id_of, Turn, added, taken, add, without, undo, Layout}
 use Rattle.paper.specs.Padding.{item_of, change_of, board_of}
 use Rattle.paper.specs.Answer.{changed, add_to, take_from}
 use Rattle.paper.specs.Laws.Back.{thing_of, turn_of, layout_of, subject, ReadsBack, TurnsBack}
-use Rattle.paper.specs.Laws.Standing.{Standing, thing_at, item_id}
-use Rattle.items.specs.declared.Found.TheVariants.{At}
-use Rattle.items.specs.Items.{with_items, with_kept, Whole, WholeChange, kind_for, IdAt, Room, RoomBack, Undone}
+use Rattle.paper.specs.Laws.Standing.{Standing, item_id}
+use Rattle.items.specs.Items.{with_items, with_kept, Whole, WholeChange, kind_for, Room, RoomBack, Undone}
 use Rattle.items.specs.Laws.Found.{length_add}
 use Rattle.items.specs.Laws.Boards.{stands_add, stands_without, layout_add, layout_without, whole_reads}
 use Rattle.items.specs.Laws.Changes.{change, turn_added, whole_added, turn_taken, whole_taken, was_taken, was_added, item_is, turn_reads, stands_kept, layout_kept}

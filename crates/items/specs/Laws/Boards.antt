@@ -1,21 +1,20 @@
 -- The board with other items: how the struct holds them.
 -- Assumes nothing.
-use Prim.Native.Nat.{ℕ, suc, ◌+◌, ◌-◌, ◌≤◌, ◌<◌}
+use Prim.Native.Nat.{ℕ, suc, ◌+◌, ◌-◌}
 use Rattle.std.proofs.Common.{arith, ◌∙◌}
 use Rattle.std.specs.Prelude.{◌≡◌, refl}
 use Rattle.std.proofs.Math.Path.{sym, ap}
-use mathlib.Core.List.{List, [], ◌∷◌, map}
+use mathlib.Core.List.{List, map}
 use Rattle.std.proofs.Math.ListN.{length, length-map}
 use Rattle.paper.specs.declared.Item.{Item}
 use Rattle.paper.specs.declared.Board.{Board}
 use Rattle.paper.specs.Limits.{most_blocks}
-use Rattle.paper.specs.Grid.{All}
-use Rattle.paper.specs.Layout.{Thing, id_of, add, without, Layout}
+use Rattle.paper.specs.Layout.{Thing, add, without}
 use Rattle.paper.specs.Padding.{filled, item_of, no_item, board_of}
 use Rattle.paper.specs.Laws.Back.{thing_of, layout_of, ReadsBack, board_back}
 use Rattle.paper.specs.Laws.Among.{all_add, all_without}
-use Rattle.paper.specs.Laws.Filled.{put_at, left_at, length_put, length_left}
-use Rattle.paper.specs.Laws.Standing.{Standing, standing, thing_id, count_is, kept_is}
+use Rattle.paper.specs.Laws.Filled.{put_at, left_at, length_left}
+use Rattle.paper.specs.Laws.Standing.{Standing, standing, thing_id, count_is}
 use Rattle.items.specs.declared.Found.TheVariants.{At}
 use Rattle.items.specs.Items.{with_items, Whole, IdAt, PlaceIs, PutIn, LeftOut, Room}
 use Rattle.items.specs.Laws.Found.{put_add, length_add, found_without, without_few}

@@ -1,6 +1,6 @@
 -- The board with other kept changes: how the struct holds them, the oldest first.
 -- Assumes nothing.
-use Rattle.std.specs.Prelude.{ℕ, zero, suc, ◌+◌, ◌-◌, ◌≤◌, ◌<◌, ◌≡◌, refl, Bool, true, false, cond, eqb}
+use Rattle.std.specs.Prelude.{ℕ, suc, ◌+◌, ◌-◌, ◌≤◌, ◌<◌, ◌≡◌, refl, Bool, true, false, cond, eqb}
 use Rattle.std.proofs.Common.{arith, sym, ap₂, ◌∙◌, take_all, take_at}
 use Rattle.std.proofs.Math.Path.{ap}
 use mathlib.Core.List.{List, [], ◌∷◌, ◌++◌, map, map-append, reverse, reverse-cons, reverse-append, append-nil}
@@ -11,7 +11,7 @@ use Rattle.paper.specs.declared.Change.{Change}
 use Rattle.paper.specs.declared.Board.{Board}
 use Rattle.paper.specs.Limits.{most_kept}
 use Rattle.paper.specs.Grid.{All}
-use Rattle.paper.specs.Layout.{Thing, keep_out, wire, Turn, added, taken, Layout}
+use Rattle.paper.specs.Layout.{keep_out, wire, Turn, added, taken}
 use Rattle.paper.specs.Padding.{filled, item_of, added_kind, change_of, no_change, board_of}
 use Rattle.paper.specs.Laws.Back.{thing_of, turn_of, layout_of, subject, ReadsBack, TurnsBack, board_back}
 use Rattle.paper.specs.Laws.Filled.{left_at, filled_left, images_more, image_in}
