@@ -1,3 +1,4 @@
+-- `distances::settle::lower` meets its contract: each number of the line in turn.
 use Prim.Native.Nat.{◌+◌}
 use Rattle.distances.specs.Going.{spot, going_first, going_skip, going_write, going_end}
 use native.Mathlib.Omega.{arith}
@@ -55,8 +56,12 @@ loop-k-preserved c =
     let on = c.loop-k-test.true in
     let e = c.cost.ensures.0 in
     elim c.if-near-d.branch [
-      | then-near-d w ↦ rw (w.d-is, w.changed-is, e) (going_write _ _ g.from g.to g.edge g.step g.count g.width _ _ l.at l.k l.invariant on c.requires.5 (rw e at w.if-near-d.true))
-      | else-near-d w ↦ rw (w.d-is, w.changed-is) (going_skip _ _ g.from g.to g.edge g.step g.count g.width _ _ l.at l.k l.invariant on (rw e at w.if-near-d.false))
+      | then-near-d w ↦
+          rw (w.d-is, w.changed-is, e)
+          (going_write _ _ g.from g.to g.edge g.step g.count g.width _ _ l.at l.k l.invariant on c.requires.5 (rw e at w.if-near-d.true))
+      | else-near-d w ↦
+          rw (w.d-is, w.changed-is)
+          (going_skip _ _ g.from g.to g.edge g.step g.count g.width _ _ l.at l.k l.invariant on (rw e at w.if-near-d.false))
     ]
 
 pub returns : goal.returns

@@ -1,3 +1,4 @@
+-- `distances::settle::lower` meets its contract: each number of the line in turn.
 use Prim.Native.Nat.{◌-◌}
 use Rattle.distances.specs.Going.{Going}
 use Rattle.distances.proofs.settle.lower.Given as goal

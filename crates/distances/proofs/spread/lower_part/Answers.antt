@@ -69,7 +69,9 @@ loop-k-preserved c =
     let e = c.cost.ensures.0 in
     let skip = parting_skip _ _ g.from g.to g.edge g.step g.high g.width _ _ l.at l.k l.invariant in
     elim c.if-near-d.branch [
-      | then-near-d+then-near-far w ↦ rw (w.d-is, w.marks-is, e) (parting_write _ _ g.from g.to g.edge g.step g.high g.width _ _ _ l.at l.k l.invariant on w.mark.ensures (rw e at w.if-near-d.true))
+      | then-near-d+then-near-far w ↦
+          rw (w.d-is, w.marks-is, e)
+          (parting_write _ _ g.from g.to g.edge g.step g.high g.width _ _ _ l.at l.k l.invariant on w.mark.ensures (rw e at w.if-near-d.true))
       | then-near-d+else-near-far w ↦ rw (w.d-is, w.marks-is) skip
       | else-near-d w ↦ rw (w.d-is, w.marks-is) skip
     ]
