@@ -20,6 +20,7 @@ fn digit(n: u32) -> u8
 }
 
 // The decimal digits of n, from `at` on; the place after them.
+#[tactic(auto, using(crate::specs::Laws::Written::writes_digit, crate::specs::Laws::Written::writes_digits))]
 pub fn put_number(buffer: &mut [u8], at: usize, n: u32) -> usize
     requires { at + 10 ≤ length buffer.old }
     ensures { Writes (number n ∷ []) buffer.old at buffer.new result }
