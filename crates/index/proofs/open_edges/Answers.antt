@@ -6,10 +6,10 @@ use Rattle.index.specs.Rows.{open_in}
 use Rattle.index.proofs.open_edges.Goals as goal
 
 pub overflow_add-result : goal.overflow_add-result
-overflow_add-result c = let g = c.args.e in omega (arith, ones-le 64 g.low (omega arith), ones-le 64 g.high (omega arith))
+overflow_add-result c = omega (arith, ones-le 64)
 
 pub overflow_cast-result : goal.overflow_cast-result
-overflow_cast-result c = let g = c.args.e in omega (arith, ones-le 64 g.low (omega arith), ones-le 64 g.high (omega arith))
+overflow_cast-result c = omega (arith, ones-le 64)
 
 pub returns : goal.returns
 unfolding open_in
