@@ -9,7 +9,7 @@ use Rattle.paper.specs.declared.Item.{Item}
 use Rattle.paper.specs.declared.Change.{Change}
 use Rattle.paper.specs.declared.Board.{Board}
 use Rattle.paper.specs.Grid.{Any, All, Pairs}
-use Rattle.paper.specs.Layout.{Thing, id_of, Below, ItemsApart, Turn, added, taken, Has, Used, undo, CanUndo}
+use Rattle.paper.specs.Layout.{Thing, id_of, Below, ItemsApart, Turn, Has, Used, undo, CanUndo}
 use Rattle.paper.specs.Padding.{item_of, change_of}
 use Rattle.paper.specs.Laws.Lists.{all_has, any_imp}
 use Rattle.paper.specs.Laws.Back.{thing_of, turn_of, layout_of, ReadsBack, TurnsBack}

@@ -50,8 +50,7 @@ fewer c =
     u.0 u.1 u.2 _ u.3
 
 next : (c : After-undo-next)
-    → 
-    Seamless (layout_of c.undo-next.result).items → Left c.args.board c.undo-next.result
+    → Seamless (layout_of c.undo-next.result).items → Left c.args.board c.undo-next.result
 unfolding Undone layout_of
 next c =
     let u = c.undo-next.ensures in

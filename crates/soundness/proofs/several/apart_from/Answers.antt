@@ -34,13 +34,12 @@ pub loop-i-smaller : goal.loop-i-smaller
 loop-i-smaller c = omega arith
 
 pub loop-i-preserved : goal.loop-i-preserved
-loop-i-preserved c =
-    (
-      omega arith,
-      all_more c.args.items (long c.before.before.before.before.before) _ c.args.n c.loop-i.i c.requires.0.few c.loop-i-test.true
-          (Apart c.args.c (thing_of c.args.item)) c.loop-i.invariant.1
-          (said_not c.meet.ensures c.if-meet.false),
-    )
+loop-i-preserved c = (
+  omega arith,
+  all_more c.args.items (long c.before.before.before.before.before) _ c.args.n c.loop-i.i c.requires.0.few c.loop-i-test.true
+      (Apart c.args.c (thing_of c.args.item)) c.loop-i.invariant.1
+      (said_not c.meet.ensures c.if-meet.false),
+)
 
 pub returns : goal.returns
 returns c =

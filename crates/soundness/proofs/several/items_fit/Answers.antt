@@ -1,5 +1,4 @@
 -- `soundness::several::items_fit` meets its contract: the items before i fit, and `last` is the highest of their ids.
-use Prim.Native.Nat.{◌-◌}
 use native.Mathlib.Omega.{arith}
 use mathlib.Core.Path.{◌≡◌, subst}
 use mathlib.Core.List.{[]}
@@ -32,11 +31,10 @@ returns-then-item-last c =
     c.loop-i.invariant.2 (omega (arith, c.if-item-last.true))
 
 pub joins-requires : goal.joins-requires
-joins-requires c =
-    (
-      front_placed c.args.size c.args.items c.args.n c.loop-i.i c.requires c.loop-i.invariant.0 c.loop-i.invariant.1.each,
-      front_at c.args.items (long c.before.before.before.before.before) none c.args.n c.loop-i.i c.requires.few c.loop-i-test.true Whole c.requires.each,
-    )
+joins-requires c = (
+  front_placed c.args.size c.args.items c.args.n c.loop-i.i c.requires c.loop-i.invariant.0 c.loop-i.invariant.1.each,
+  front_at c.args.items (long c.before.before.before.before.before) none c.args.n c.loop-i.i c.requires.few c.loop-i-test.true Whole c.requires.each,
+)
 
 pub returns-then-not-joins : goal.returns-then-not-joins
 returns-then-not-joins c =
