@@ -1,0 +1,12 @@
+-- `router::apart` meets its contract.
+use Rattle.paper.specs.Wire.{gap}
+use native.Mathlib.Omega.{arith}
+use Rattle.router.proofs.apart.Goals as goal
+
+pub returns-then-a-b : goal.returns-then-a-b
+unfolding gap
+returns-then-a-b c = omega arith
+
+pub returns-else-a-b : goal.returns-else-a-b
+unfolding gap
+returns-else-a-b c = omega arith
