@@ -14,7 +14,7 @@ ghost use Rattle.router.specs.Route.{Asked};
 ghost use Rattle.ask.specs.Questions.{OneItem};
 
 use blocks::{Blocks, Found, Look, Place, scan};
-use libc::{STDIN_FILENO, STDOUT_FILENO};
+use input::{large_buffer, read_all};
 use paper::{Mode, Pins, Size};
 use router::{Route, Routed, find_wire};
 
@@ -292,9 +292,9 @@ fn over_and_over(file: &[u8]) -> u64
     all
 }
 
-fn main() {
-    let mut room = io::large_buffer();
-    let n = io::read_full(STDIN_FILENO, &mut room);
-    io::print_decimal(STDOUT_FILENO, over_and_over(&room[..n]));
-    io::write_all(STDOUT_FILENO, b"\n");
+fn main(rt: HostRuntime) {
+    let mut room = large_buffer();
+    let mut source = rt.stdin();
+    let input = read_all(&mut source, &mut room);
+    let _ = rt.println(over_and_over(&room[..input.size]));
 }

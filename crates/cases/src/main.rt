@@ -3,6 +3,6 @@
 // That router was written apart from these crates and searches in other ways. `bench cases` makes both files.
 #![tactic(auto)]
 
-fn main() {
-    printer::run();
+fn main(rt: HostRuntime) {
+    printer::run(&rt);
 }

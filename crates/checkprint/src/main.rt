@@ -13,9 +13,10 @@ mod lines;
 mod pieces;
 mod turns;
 
-use libc::{STDERR_FILENO, STDOUT_FILENO};
+use input::large_buffer;
 use lines::put_last;
 use paper::Board;
+use std::io::{Read, Write};
 use turns::print;
 
 // The word of the last line.
@@ -66,11 +67,11 @@ enum Spare {
 }
 
 // Every line, then the last one. Whether all could be read and written.
-fn run() -> Stop {
-    let mut out = io::large_buffer();
-    let end = print(&mut out);
+fn run<R: Read, W: Write>(source: &mut R, sink: &mut W) -> Stop {
+    let mut out = large_buffer();
+    let end = print(source, sink, &mut out);
     let waiting = end.place.waiting;
-    if !io::write_all(STDOUT_FILENO, &out[..waiting]) {
+    if sink.write_all(&out[..waiting]).is_err() {
         return Stop::Unwritten;
     }
     let stop = end.stop;
@@ -78,27 +79,23 @@ fn run() -> Stop {
         return stop;
     };
     let n = put_last(&mut out, last);
-    if io::write_all(STDOUT_FILENO, &out[..n]) {
+    if sink.write_all(&out[..n]).is_ok() {
         return stop;
     }
     Stop::Unwritten
 }
 
-fn main() {
-    match run() {
+fn main(rt: HostRuntime) {
+    let mut source = rt.stdin();
+    let mut sink = rt.stdout();
+    match run(&mut source, &mut sink) {
         Stop::Going => {}
         Stop::Over(_) => {}
         Stop::Unread => {
-            io::write_all(
-                STDERR_FILENO,
-                b"checkprint: standard input cannot be read\n",
-            );
+            let _ = rt.eprintln("checkprint: standard input cannot be read");
         }
         Stop::Unwritten => {
-            io::write_all(
-                STDERR_FILENO,
-                b"checkprint: standard output cannot be written\n",
-            );
+            let _ = rt.eprintln("checkprint: standard output cannot be written");
         }
     }
 }

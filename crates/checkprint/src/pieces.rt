@@ -5,6 +5,7 @@ ghost use Rattle.checkprint.specs.Standing.{EndsAt};
 
 use crate::{Last, Stop};
 use input::{Input, read_all};
+use std::io::Read;
 
 // How many bytes a piece has, by its letter and the byte after it; 0 where no piece has the letter.
 fn piece_size(letter: u8, next: u8) -> usize
@@ -20,11 +21,11 @@ fn piece_size(letter: u8, next: u8) -> usize
 }
 
 // Reads a piece into the room's start, or what there is of it.
-pub(crate) fn read_piece(room: &mut [u8]) -> Input
+pub(crate) fn read_piece<R: Read>(source: &mut R, room: &mut [u8]) -> Input
     requires { length room.old ≡ most_bytes }
     ensures { result.size ≤ length room.new }
 {
-    let head = read_all(&mut room[..2]);
+    let head = read_all(source, &mut room[..2]);
     if head.size < 2 {
         return head;
     }
@@ -32,7 +33,7 @@ pub(crate) fn read_piece(room: &mut [u8]) -> Input
     if size == 0 {
         return head;
     }
-    let rest = read_all(&mut room[2..size]);
+    let rest = read_all(source, &mut room[2..size]);
     Input {
         size: 2 + rest.size,
         failed: rest.failed,
@@ -66,11 +67,11 @@ fn stop_after(bytes: &[u8]) -> Stop
 }
 
 // What is left once 65,535 pieces are read.
-pub(crate) fn left_over(room: &mut [u8]) -> Stop
+pub(crate) fn left_over<R: Read>(source: &mut R, room: &mut [u8]) -> Stop
     requires { length room.old ≡ most_bytes }
     ensures { EndsAt result most_pieces }
 {
-    let more = read_all(&mut room[..1]);
+    let more = read_all(source, &mut room[..1]);
     if more.failed {
         return Stop::Unread;
     }

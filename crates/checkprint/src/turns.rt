@@ -8,9 +8,9 @@ use crate::lines::wire_line;
 use crate::pieces::{left_over, read_piece, stop_for};
 use crate::{Done, Place, Spare, Stop, Turn};
 use feed::feed_sound;
-use libc::STDOUT_FILENO;
 use paper::{Board, LEAST_SLICE};
 use sheet::start;
+use std::io::{Read, Write};
 
 // The room that a line is lent. A line has 28 bytes at most: a number of 5 digits, two of 10 after a space, and its end.
 const LINE_ROOM: usize = 32;
@@ -48,14 +48,14 @@ fn step(piece: &[u8], wires: u32, board: Board, line: &mut [u8]) -> Done
 // ---- the lines
 
 // Where the next line begins: after those that wait, or, where it has no room there, at the buffer's start, once they are written.
-fn line_start(out: &[u8], waiting: usize) -> Spare
+fn line_start<W: Write>(sink: &mut W, out: &[u8], waiting: usize) -> Spare
     requires { (waiting ≤ length out.now) × (line_room ≤ length out.now) }
     ensures { SpareIs (length out.now) waiting result }
 {
     if out.len() - waiting >= LINE_ROOM {
         return Spare::At(waiting);
     }
-    if io::write_all(STDOUT_FILENO, &out[..waiting]) {
+    if sink.write_all(&out[..waiting]).is_ok() {
         return Spare::At(0);
     }
     Spare::Unwritten
@@ -71,11 +71,11 @@ fn with_waiting(place: Place, at: usize) -> Place
 }
 
 // The piece's line goes after those that wait, once there is room for it.
-fn put_piece(place: Place, piece: &[u8], out: &mut [u8]) -> Turn
+fn put_piece<W: Write>(sink: &mut W, place: Place, piece: &[u8], out: &mut [u8]) -> Turn
     requires { Stands place out.old × (place.pieces < most_pieces) × IsPiece piece.now × (line_room ≤ length out.old) }
     ensures { Turned place result out.new }
 {
-    let Spare::At(at) = line_start(out, place.waiting) else {
+    let Spare::At(at) = line_start(sink, out, place.waiting) else {
         return Turn {
             place: with_waiting(place, 0),
             stop: Stop::Unwritten,
@@ -97,11 +97,17 @@ fn put_piece(place: Place, piece: &[u8], out: &mut [u8]) -> Turn
 }
 
 // One piece more, or the end: nothing was read, or no piece, or the read failed.
-fn take_turn(place: Place, room: &mut [u8], out: &mut [u8]) -> Turn
+fn take_turn<R: Read, W: Write>(
+    source: &mut R,
+    sink: &mut W,
+    place: Place,
+    room: &mut [u8],
+    out: &mut [u8],
+) -> Turn
     requires { Stands place out.old × (place.pieces < most_pieces) × (length room.old ≡ most_bytes) × (line_room ≤ length out.old) }
     ensures { Turned place result out.new }
 {
-    let input = read_piece(room);
+    let input = read_piece(source, room);
     if input.failed {
         return Turn {
             place: place,
@@ -116,7 +122,7 @@ fn take_turn(place: Place, room: &mut [u8], out: &mut [u8]) -> Turn
             stop: stop,
         };
     };
-    put_piece(place, &room[..size], out)
+    put_piece(sink, place, &room[..size], out)
 }
 
 fn piece_room() -> [u8; MOST_BYTES]
@@ -126,7 +132,7 @@ fn piece_room() -> [u8; MOST_BYTES]
 }
 
 // All pieces, and a line for each drawn wire; the last of them wait in the buffer.
-pub(crate) fn print(out: &mut [u8]) -> Turn
+pub(crate) fn print<R: Read, W: Write>(source: &mut R, sink: &mut W, out: &mut [u8]) -> Turn
     requires { line_room ≤ length out.old }
     ensures { Ended result out.new }
 {
@@ -138,7 +144,7 @@ pub(crate) fn print(out: &mut [u8]) -> Turn
         board: start(),
     };
     while place.pieces < MOST_PIECES {
-        let turn = take_turn(place, &mut room, out);
+        let turn = take_turn(source, sink, place, &mut room, out);
         let stop = turn.stop;
         let Stop::Going = stop else {
             return turn;
@@ -147,6 +153,6 @@ pub(crate) fn print(out: &mut [u8]) -> Turn
     }
     Turn {
         place: place,
-        stop: left_over(&mut room),
+        stop: left_over(source, &mut room),
     }
 }

@@ -17,8 +17,7 @@ ghost use Rattle.crowdprint.specs.Crowded.{FedNext, Leaves, Over, line_in, lines
 use beside::{Kept, crowd_sheet, feed_kept};
 use crowding::of_board;
 use index::{Crowding, Index};
-use input::read_all;
-use libc::{STDERR_FILENO, STDOUT_FILENO};
+use input::{large_buffer, read_all};
 use paper::{Board, LEAST_SLICE};
 use sheet::{after_record, put_last, start};
 use text::{put_byte, put_next, put_number};
@@ -134,22 +133,17 @@ fn file_room() -> [u8; 786421]
 }
 
 // Where a read or a write fails, a line on standard error says so.
-fn main() {
+fn main(rt: HostRuntime) {
     let mut room = file_room();
-    let input = read_all(&mut room);
+    let mut source = rt.stdin();
+    let input = read_all(&mut source, &mut room);
     if input.failed {
-        io::write_all(
-            STDERR_FILENO,
-            b"crowdprint: standard input cannot be read\n",
-        );
+        let _ = rt.eprintln("crowdprint: standard input cannot be read");
         return;
     }
-    let mut out = io::large_buffer();
+    let mut out = large_buffer();
     let n = put_all(&room[..input.size], &mut out);
-    if !io::write_all(STDOUT_FILENO, &out[..n]) {
-        io::write_all(
-            STDERR_FILENO,
-            b"crowdprint: standard output cannot be written\n",
-        );
+    if rt.write_all(&out[..n]).is_err() {
+        let _ = rt.eprintln("crowdprint: standard output cannot be written");
     }
 }

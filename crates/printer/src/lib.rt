@@ -7,10 +7,10 @@
 ghost use Rattle.std.specs.Prelude.{◌≡◌, ◌≤◌, length};
 ghost use Rattle.printer.specs.Filled.{Within, Fills, AllPrinted, HoldsLast};
 
-use input::read_all;
-use libc::{STDERR_FILENO, STDOUT_FILENO};
+use input::{large_buffer, read_all};
 use paper::Board;
 use sheet::{LINE_ROOM, put_last, start, step};
+use std::io::{Input, Write, writer};
 
 // ---- reading
 
@@ -57,17 +57,17 @@ fn fill(file: &[u8], from: Place, out: &mut [u8]) -> Place
 }
 
 // The last line, by way of the buffer, once every record is printed and the place is `at`. Whether it could be written.
-fn finish(file: &[u8], at: usize, out: &mut [u8]) -> bool
+fn finish<W: Write>(sink: &mut W, file: &[u8], at: usize, out: &mut [u8]) -> bool
     requires { AllPrinted file.now at × (4 ≤ length out.old) }
     ensures { HoldsLast file.now at out.old out.new }
 {
     let n = put_last(out, at < file.len());
-    io::write_all(STDOUT_FILENO, &out[..n])
+    sink.write_all(&out[..n]).is_ok()
 }
 
 // All lines, a buffer of them at a time. Whether they could be written.
-fn print(file: &[u8]) -> bool {
-    let mut out = io::large_buffer();
+fn print<W: Write>(sink: &mut W, file: &[u8]) -> bool {
+    let mut out = large_buffer();
     let mut place = Place {
         at: 0,
         records: 0,
@@ -78,23 +78,25 @@ fn print(file: &[u8]) -> bool {
     while more {
         let before = place.records;
         place = fill(file, place, &mut out);
-        if !io::write_all(STDOUT_FILENO, &out[..place.waiting]) {
+        if sink.write_all(&out[..place.waiting]).is_err() {
             return false;
         }
         more = place.records > before;
     }
-    finish(file, place.at, &mut out)
+    finish(sink, file, place.at, &mut out)
 }
 
 // All records of standard input, printed on standard output. Where a read or a write fails, a line on standard error says so.
-pub fn run() {
+pub fn run(rt: &(impl Input + Print + Eprint)) {
     let mut room = file_room();
-    let input = read_all(&mut room);
+    let mut source = rt.reader();
+    let input = read_all(&mut source, &mut room);
     if input.failed {
-        io::write_all(STDERR_FILENO, b"sheet: standard input cannot be read\n");
+        let _ = rt.eprintln("sheet: standard input cannot be read");
         return;
     }
-    if !print(&room[..input.size]) {
-        io::write_all(STDERR_FILENO, b"sheet: standard output cannot be written\n");
+    let mut sink = writer(rt);
+    if !print(&mut sink, &room[..input.size]) {
+        let _ = rt.eprintln("sheet: standard output cannot be written");
     }
 }

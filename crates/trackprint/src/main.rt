@@ -1,6 +1,6 @@
 // Reads records on standard input and prints their sheet.
 #![tactic(auto)]
 
-fn main() {
-    printer::run();
+fn main(rt: HostRuntime) {
+    printer::run(&rt);
 }

@@ -11,45 +11,45 @@ use tracks::Tracks;
 const MOST_LINES: usize = 192;
 
 // Whether the index is as it was.
-pub(crate) fn say_index(before: Index, after: Index) {
+pub(crate) fn say_index(out: &impl Print, before: Index, after: Index) {
     if same_index(before, after) {
-        say(b" index same");
+        say(out, b" index same");
     } else {
-        say(b" index changed");
+        say(out, b" index changed");
     }
 }
 
 // ---- the sheet
 
-fn say_line(letter: &[u8], at: u16, free: u8, stretch: u8) {
-    say(letter);
-    say_next(at as u64);
-    say_next(free as u64);
-    say_next(stretch as u64);
-    say(b"\n");
+fn say_line(out: &impl Print, letter: &[u8], at: u16, free: u8, stretch: u8) {
+    say(out, letter);
+    say_next(out, at as u64);
+    say_next(out, free as u64);
+    say_next(out, stretch as u64);
+    say(out, b"\n");
 }
 
 // The lines from one place on, before another.
-fn say_lines(letter: &[u8], sheet: Crowding, from: usize, to: usize)
+fn say_lines(out: &impl Print, letter: &[u8], sheet: Crowding, from: usize, to: usize)
     requires { to ≤ 192 }
 {
     let mut k = from;
     while k < to {
-        say_line(letter, sheet.at[k], sheet.free[k], sheet.stretch[k]);
+        say_line(out, letter, sheet.at[k], sheet.free[k], sheet.stretch[k]);
         k += 1;
     }
 }
 
-fn say_sheet(sheet: Crowding) {
+fn say_sheet(out: &impl Print, sheet: Crowding) {
     let upright = least(sheet.upright, MOST_LINES);
     let level = least(sheet.level, MOST_LINES - upright);
-    say(b"crowd");
-    say_next(sheet.code as u64);
-    say_next(sheet.upright as u64);
-    say_next(sheet.level as u64);
-    say(b"\n");
-    say_lines(b"x", sheet, 0, upright);
-    say_lines(b"y", sheet, upright, upright + level);
+    say(out, b"crowd");
+    say_next(out, sheet.code as u64);
+    say_next(out, sheet.upright as u64);
+    say_next(out, sheet.level as u64);
+    say(out, b"\n");
+    say_lines(out, b"x", sheet, 0, upright);
+    say_lines(out, b"y", sheet, upright, upright + level);
 }
 
 // ---- a bit
@@ -107,7 +107,7 @@ fn with_track(index: Index, axis: u16, place: usize, v: u16) -> Index {
 
 // ---- the words
 
-pub(crate) fn crowd_word(trial: Trial, word: u8, n: Numbers) -> Trial {
+pub(crate) fn crowd_word(out: &impl Print, trial: Trial, word: u8, n: Numbers) -> Trial {
     let board = trial.board;
     let index = trial.index;
     let axis = number(n, 0);
@@ -116,7 +116,7 @@ pub(crate) fn crowd_word(trial: Trial, word: u8, n: Numbers) -> Trial {
     let mut left = trial;
     match word {
         b'i' => left.beside = true,
-        b'c' => say_sheet(crowd_sheet(board, index)),
+        b'c' => say_sheet(out, crowd_sheet(board, index)),
         b'B' => left.index = with_bit(index, axis, place, third as usize),
         b'T' => left.index = with_track(index, axis, place, third),
         _ => {}

@@ -36,9 +36,9 @@ use bytes::record_of;
 use crowd::{crowd_word, say_index};
 use feed::feed;
 use index::{Index, no_index};
+use input::{large_buffer, read_all};
 use items::begin;
 use lent::marks;
-use libc::STDIN_FILENO;
 use numbers::{Numbers, number, numbers_of};
 use paper::{Board, LEAST_SLICE, Size};
 use same::same_board;
@@ -96,7 +96,7 @@ fn next(fed: u32) -> u32 {
 }
 
 // What a record leaves is told.
-fn tell(trial: Trial, kept: Kept, slice: [u16; MOST_LENT]) -> Trial {
+fn tell(out: &impl Print, trial: Trial, kept: Kept, slice: [u16; MOST_LENT]) -> Trial {
     let reply = kept.reply;
     let index = kept.index;
     let before = trial.board;
@@ -107,12 +107,12 @@ fn tell(trial: Trial, kept: Kept, slice: [u16; MOST_LENT]) -> Trial {
     left.board = after;
     left.index = index;
     left.slice = slice;
-    say_number(left.fed as u64);
-    say_reply(reply, slice, same_board(before, after));
+    say_number(out, left.fed as u64);
+    say_reply(out, reply, slice, same_board(before, after));
     if trial.beside {
-        say_index(was, index);
+        say_index(out, was, index);
     }
-    say(b"\n");
+    say(out, b"\n");
     left
 }
 
@@ -131,40 +131,40 @@ fn fed(trial: Trial, bytes: &[u8], answer: &mut [u16]) -> Kept {
 }
 
 // The first bytes are fed.
-fn feed_bytes(trial: Trial, bytes: [u8; MOST_BYTES], count: usize) -> Trial {
+fn feed_bytes(out: &impl Print, trial: Trial, bytes: [u8; MOST_BYTES], count: usize) -> Trial {
     let n = least(count, MOST_BYTES);
     let lent = least(trial.lent, MOST_LENT);
     let mut slice = marks();
     let kept = fed(trial, &bytes[..n], &mut slice[..lent]);
-    tell(trial, kept, slice)
+    tell(out, trial, kept, slice)
 }
 
-fn feed_record(trial: Trial, kind: u16, id: u16, n: Numbers, from: usize) -> Trial
+fn feed_record(out: &impl Print, trial: Trial, kind: u16, id: u16, n: Numbers, from: usize) -> Trial
     requires { from ≤ 2 }
 {
-    feed_bytes(trial, record_of(kind, id, n, from), 12)
+    feed_bytes(out, trial, record_of(kind, id, n, from), 12)
 }
 
 // ---- the script
 
-fn title(line: &[u8]) -> Trial {
-    say(line);
-    say(b"\n");
+fn title(out: &impl Print, line: &[u8]) -> Trial {
+    say(out, line);
+    say(out, b"\n");
     new_trial()
 }
 
-fn follow(trial: Trial, line: &[u8]) -> Trial {
+fn follow(out: &impl Print, trial: Trial, line: &[u8]) -> Trial {
     if line.len() == 0 {
         return trial;
     }
     let n = numbers_of(line);
     let word = line[0];
     match word {
-        b'=' => title(line),
+        b'=' => title(out, line),
         b'S' | b'I' | b'K' | b'P' | b'C' => write_word(trial, word, n),
-        b's' | b'v' | b'd' | b'm' | b'e' => look_word(trial, word, n),
-        b'i' | b'c' | b'B' | b'T' => crowd_word(trial, word, n),
-        _ => record_word(trial, word, n),
+        b's' | b'v' | b'd' | b'm' | b'e' => look_word(out, trial, word, n),
+        b'i' | b'c' | b'B' | b'T' => crowd_word(out, trial, word, n),
+        _ => record_word(out, trial, word, n),
     }
 }
 
@@ -183,19 +183,20 @@ fn line_end(script: &[u8], from: usize) -> usize
     k
 }
 
-fn run(script: &[u8]) {
+fn run(out: &impl Print, script: &[u8]) {
     let mut trial = new_trial();
     let mut from: usize = 0;
     while from < script.len() {
         let end = line_end(script, from);
-        trial = follow(trial, &script[from..end]);
+        trial = follow(out, trial, &script[from..end]);
         from = end + 1;
     }
 }
 
-fn main() {
-    let mut room = io::large_buffer();
-    let n = io::read_full(STDIN_FILENO, &mut room);
-    run(&room[..n]);
-    say(b"end\n");
+fn main(rt: HostRuntime) {
+    let mut room = large_buffer();
+    let mut source = rt.stdin();
+    let input = read_all(&mut source, &mut room);
+    run(&rt, &room[..input.size]);
+    say(&rt, b"end\n");
 }

@@ -9,20 +9,20 @@ use crate::{MOST_NUMBERS, Trial, feed_bytes, feed_record, least};
 use drawn::judge;
 use paper::{Board, Change, Item, Judged, MOST_BLOCKS, MOST_CORNERS, MOST_KEPT, Size};
 
-pub(crate) fn record_word(trial: Trial, word: u8, n: Numbers) -> Trial {
+pub(crate) fn record_word(out: &impl Print, trial: Trial, word: u8, n: Numbers) -> Trial {
     let first = number(n, 0);
     match word {
-        b'b' => feed_record(trial, 1, 0, n, 0),
-        b'k' => feed_record(trial, 2, first, n, 1),
-        b'l' => feed_record(trial, 3, first, n, 1),
-        b'a' => feed_record(trial, 4, 0, n, 0),
-        b't' => feed_record(trial, 5, first, n, 1),
-        b'u' => feed_record(trial, 6, 0, n, 0),
-        b'r' => feed_record(trial, first, number(n, 1), n, 2),
-        b'p' => feed_bytes(trial, bytes_of(n), n.count),
-        b'w' => draw(trial, n),
+        b'b' => feed_record(out, trial, 1, 0, n, 0),
+        b'k' => feed_record(out, trial, 2, first, n, 1),
+        b'l' => feed_record(out, trial, 3, first, n, 1),
+        b'a' => feed_record(out, trial, 4, 0, n, 0),
+        b't' => feed_record(out, trial, 5, first, n, 1),
+        b'u' => feed_record(out, trial, 6, 0, n, 0),
+        b'r' => feed_record(out, trial, first, number(n, 1), n, 2),
+        b'p' => feed_bytes(out, trial, bytes_of(n), n.count),
+        b'w' => draw(out, trial, n),
         b'#' => trial,
-        _ => unknown(trial),
+        _ => unknown(out, trial),
     }
 }
 
@@ -32,38 +32,38 @@ fn judged(board: Board, all: [u16; MOST_NUMBERS], count: usize) -> Judged {
     judge(board, &all[..n])
 }
 
-fn draw(trial: Trial, n: Numbers) -> Trial {
+fn draw(out: &impl Print, trial: Trial, n: Numbers) -> Trial {
     let board = trial.board;
     let all = n.all;
-    say_judged(judged(board, all, n.count));
+    say_judged(out, judged(board, all, n.count));
     trial
 }
 
-fn unknown(trial: Trial) -> Trial {
-    say(b"unknown word\n");
+fn unknown(out: &impl Print, trial: Trial) -> Trial {
+    say(out, b"unknown word\n");
     trial
 }
 
-fn say_equal(trial: Trial) {
+fn say_equal(out: &impl Print, trial: Trial) {
     let one = trial.board;
     let other = trial.marked;
     if same_board(one, other) {
-        say(b"equal\n");
+        say(out, b"equal\n");
     } else {
-        say(b"different\n");
+        say(out, b"different\n");
     }
 }
 
-pub(crate) fn look_word(trial: Trial, word: u8, n: Numbers) -> Trial {
+pub(crate) fn look_word(out: &impl Print, trial: Trial, word: u8, n: Numbers) -> Trial {
     let board = trial.board;
     let slice = trial.slice;
     let mut left = trial;
     match word {
         b's' => left.lent = number(n, 0) as usize,
-        b'v' => say_slice(slice, trial.lent),
-        b'd' => say_board(board),
+        b'v' => say_slice(out, slice, trial.lent),
+        b'd' => say_board(out, board),
         b'm' => left.marked = board,
-        b'e' => say_equal(trial),
+        b'e' => say_equal(out, trial),
         _ => {}
     }
     left
