@@ -1,11 +1,11 @@
-// Standard input, read into a lent room. A library, since more than one program does it.
+// An input, as the standard one, read into a lent room. A library, since more than one program does it.
 //
 // Which bytes a system call moves is assumed; that they lie within the room is proved.
 #![tactic(auto)]
 
-ghost use Rattle.std.specs.Prelude.{◌≤◌, length};
+ghost use Rattle.std.specs.Prelude.{◌≡◌, ◌≤◌, length};
 
-use libc::STDIN_FILENO;
+use std::io::Read;
 
 // How many bytes were read, and whether a read failed.
 #[derive(Clone, Copy)]
@@ -15,19 +15,17 @@ pub struct Input {
 }
 
 // Reads until the room is full, the input ends or a read fails.
-pub fn read_all(room: &mut [u8]) -> Input
+pub fn read_all<R: Read>(source: &mut R, room: &mut [u8]) -> Input
     ensures { result.size ≤ length room.new }
 {
     let mut done: usize = 0;
     while done < room.len() {
-        let got = libc::read(STDIN_FILENO, &mut room[done..]);
-        if got < 0 {
+        let Ok(more) = source.read(&mut room[done..]) else {
             return Input {
                 size: done,
                 failed: true,
             };
-        }
-        let more = io::count(got, &room[done..]);
+        };
         if more == 0 {
             return Input {
                 size: done,
@@ -40,4 +38,11 @@ pub fn read_all(room: &mut [u8]) -> Input
         size: done,
         failed: false,
     }
+}
+
+// 65,536 zeros, for what moves much data.
+pub fn large_buffer() -> [u8; 65536]
+    ensures { 65536 ≡ length result }
+{
+    [0; 65536]
 }

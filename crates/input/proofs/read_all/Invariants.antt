@@ -1,0 +1,9 @@
+-- `input::read_all` meets its contract: what was read lies within the room.
+use Rattle.std.proofs.Common.{length, ◌-◌, ◌≤◌}
+use Rattle.input.proofs.read_all.Given as goal
+
+abbrev pub invariant-loop-done : goal.invariant-loop-done
+invariant-loop-done g l = l.done ≤ length l.room
+
+abbrev pub decreases-loop-done : goal.decreases-loop-done
+decreases-loop-done g l = length l.initial.room - l.done
