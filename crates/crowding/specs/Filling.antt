@@ -3,7 +3,7 @@
 use Rattle.std.specs.Prelude.{ℕ, ◌≤◌, ◌<◌, ◌≡◌, Bool, true, false, List, [], length, get_or, eqb}
 use Rattle.blocks.specs.Flat.{listed}
 use Rattle.edges.specs.Marks.{cell}
-use Rattle.tracks.specs.Tracks.{spans, track, most_tracks, AreTracks}
+use Rattle.tracks.specs.Tracks.{spans, most_tracks, AreTracks}
 use Rattle.paper.specs.declared.Size.{Size}
 use Rattle.paper.specs.Limits.{most_blocks}
 use Rattle.tracks.specs.declared.Tracks.{Tracks}

@@ -1,6 +1,6 @@
 -- There is one index of a layout, and one sheet of an index; and what `sheet` counts is that sheet.
 -- Assumes nothing.
-use Rattle.std.specs.Prelude.{ℕ, ◌-◌, ◌≤◌, ◌<◌, ◌≡◌, refl, Bool, true, false, List, length, get_or}
+use Rattle.std.specs.Prelude.{ℕ, ◌≤◌, ◌<◌, ◌≡◌, refl, Bool, true, false, List, length, get_or}
 use Rattle.std.proofs.Common.{arith, sym, ap, subst, subst₂, ◌∙◌, inl, inr, ext_get_or}
 use Rattle.std.proofs.Math.Decide.{dec_lt}
 use Rattle.paper.specs.Grid.{Grid, Axis, level, upright, Block}

@@ -1,0 +1,80 @@
+-- `crowding::of_board` meets its contract: the tracks of each axis with no further coordinate, then their edges.
+use native.Mathlib.Omega.{arith}
+use Prim.Native.Nat.{ℕ, ◌≤◌}
+use mathlib.Core.Path.{◌≡◌, refl, ◌∙◌}
+use mathlib.Core.Logic.{inl, inr}
+use mathlib.Core.List.{List}
+use Rattle.paper.specs.declared.Board.{Board}
+use Rattle.paper.specs.Layout.{Thing, wires, blocks_to, InRange, Layout}
+use Rattle.paper.specs.Padding.{WellFormed}
+use Rattle.paper.specs.Laws.Back.{layout_of, well_formed}
+use Rattle.paper.specs.Laws.Next.{laid}
+use Rattle.paper.specs.Laws.Seams.{open_iff}
+use Rattle.blocks.specs.declared.Blocks.{Blocks}
+use Rattle.blocks.specs.Flat.{listed, block_at, first_at, Held, HeldOf}
+use Rattle.blocks.specs.Laws.Board.{drawn}
+use Rattle.blocks.specs.Laws.Held.{held_fits, flat_held}
+use Rattle.edges.specs.Marks.{box_at}
+use Rattle.crowding.specs.Crowding.{IndexOf}
+use Rattle.crowding.specs.Laws.Opened.{built_alike}
+use Rattle.crowding.proofs.of_board.Goals as goal
+
+-- the blocks are few
+few : {b : Blocks} {c : ℕ} {ts : List Thing} → Held b c wires ts → first_at b b.items ≤ 46
+few {b} h = (held_fits h).ends_few b.items (omega arith)
+
+-- the same blocks, told by their arrays
+arrays : (b : Blocks) (n : ℕ) → listed (box_at b.x0 b.y0 b.x1 b.y1 b.c) 0 n ≡ listed (block_at b) 0 n
+unfolding box_at block_at
+arrays b n = refl
+
+same : (b : Blocks) (l : Layout) → HeldOf b wires l
+    → listed (box_at b.x0 b.y0 b.x1 b.y1 b.c) 0 (first_at b b.items) ≡ blocks_to l.size.clearance wires l.items
+same b l h = arrays b (first_at b b.items) ∙ flat_held h
+
+-- a board after bounds has a width and a height
+range : (b : Board) → WellFormed b → ¬ (b.size.w ≡ 0) → InRange b.size
+unfolding layout_of
+range b w n = (laid (layout_of b) (well_formed b w).sound n).range
+
+pub returns-then-size-eq0 : goal.returns-then-size-eq0
+unfolding IndexOf layout_of
+returns-then-size-eq0 c = inl (c.if-size-eq0.true, c.no_index.ensures)
+
+pub of_board-held-requires : goal.of_board-held-requires
+of_board-held-requires c = drawn _ c.requires
+
+pub offset_bounds-held-last : goal.offset_bounds-held-last
+offset_bounds-held-last c = omega (arith, (held_fits c.of_board-held.ensures).items_few)
+
+pub bounds-held-last : goal.bounds-held-last
+bounds-held-last c = omega (arith, (held_fits c.of_board-held.ensures).items_few)
+
+pub of_axis-x-requires : goal.of_axis-x-requires
+of_axis-x-requires c = (few c.of_board-held.ensures, omega arith)
+
+pub of_axis-y-requires : goal.of_axis-y-requires
+of_axis-y-requires c = (few c.of_board-held.ensures, omega arith)
+
+pub on_tracks-requires : goal.on_tracks-requires
+on_tracks-requires c =
+    let z = range c.args.board c.requires c.if-size-eq0.false in
+    record {
+      wide = z.0.0;
+      high = z.1.0;
+      few = few c.of_board-held.ensures;
+      on_x = c.of_axis-x.ensures;
+      on_y = c.of_axis-y.ensures;
+    }
+
+-- by seams as rectangles the open edges are those of the layout
+pub returns : goal.returns
+unfolding IndexOf layout_of
+returns c =
+    let l = layout_of c.args.board in
+    let some = (range c.args.board c.requires c.if-size-eq0.false).2.0 in
+    inr (
+      c.if-size-eq0.false,
+      built_alike refl refl (λ a p. let o = open_iff l.size l.items a p some in (o.1, o.0))
+          (rw (same _ l c.of_board-held.ensures) at c.on_tracks.ensures),
+    )
