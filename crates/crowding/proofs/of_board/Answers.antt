@@ -5,13 +5,13 @@ use mathlib.Core.Path.{◌≡◌, refl, ◌∙◌}
 use mathlib.Core.Logic.{inl, inr}
 use mathlib.Core.List.{List}
 use Rattle.paper.specs.declared.Board.{Board}
-use Rattle.paper.specs.Layout.{Thing, wires, blocks_to, InRange, Layout}
+use Rattle.paper.specs.Layout.{Thing, Sort, blocks_to, InRange}
 use Rattle.paper.specs.Padding.{WellFormed}
 use Rattle.paper.specs.Laws.Back.{layout_of, well_formed}
 use Rattle.paper.specs.Laws.Next.{laid}
 use Rattle.paper.specs.Laws.Seams.{open_iff}
 use Rattle.blocks.specs.declared.Blocks.{Blocks}
-use Rattle.blocks.specs.Flat.{listed, block_at, first_at, Held, HeldOf}
+use Rattle.blocks.specs.Flat.{listed, block_at, first_at, Held}
 use Rattle.blocks.specs.Laws.Board.{drawn}
 use Rattle.blocks.specs.Laws.Held.{held_fits, flat_held}
 use Rattle.edges.specs.Marks.{box_at}
@@ -20,7 +20,7 @@ use Rattle.crowding.specs.Laws.Opened.{built_alike}
 use Rattle.crowding.proofs.of_board.Goals as goal
 
 -- the blocks are few
-few : {b : Blocks} {c : ℕ} {ts : List Thing} → Held b c wires ts → first_at b b.items ≤ 46
+few : {b : Blocks} {c : ℕ} {to : Sort} {ts : List Thing} → Held b c to ts → first_at b b.items ≤ 46
 few {b} h = (held_fits h).ends_few b.items (omega arith)
 
 -- the same blocks, told by their arrays
@@ -28,9 +28,8 @@ arrays : (b : Blocks) (n : ℕ) → listed (box_at b.x0 b.y0 b.x1 b.y1 b.c) 0 n 
 unfolding box_at block_at
 arrays b n = refl
 
-same : (b : Blocks) (l : Layout) → HeldOf b wires l
-    → listed (box_at b.x0 b.y0 b.x1 b.y1 b.c) 0 (first_at b b.items) ≡ blocks_to l.size.clearance wires l.items
-same b l h = arrays b (first_at b b.items) ∙ flat_held h
+same : {b : Blocks} {c : ℕ} {to : Sort} {ts : List Thing} → Held b c to ts → listed (box_at b.x0 b.y0 b.x1 b.y1 b.c) 0 (first_at b b.items) ≡ blocks_to c to ts
+same {b} h = arrays b (first_at b b.items) ∙ flat_held h
 
 -- a board after bounds has a width and a height
 range : (b : Board) → WellFormed b → ¬ (b.size.w ≡ 0) → InRange b.size
@@ -76,5 +75,5 @@ returns c =
     inr (
       c.if-size-eq0.false,
       built_alike refl refl (λ a p. let o = open_iff l.size l.items a p some in (o.1, o.0))
-          (rw (same _ l c.of_board-held.ensures) at c.on_tracks.ensures),
+          (rw (same c.of_board-held.ensures) at c.on_tracks.ensures),
     )

@@ -1,24 +1,21 @@
 -- `crowding::on_tracks` meets its contract: the marks, then the words of each track.
 use native.Mathlib.Omega.{arith}
-use mathlib.Core.List.{[]}
-use Rattle.tracks.specs.Tracks.{spans}
 use Rattle.tracks.specs.Laws.{track_two}
-use Rattle.edges.specs.Ranges.{Rising}
 use Rattle.router.specs.Lines.{to_edges}
 use Rattle.crowding.specs.Laws.Opened.{built}
-use Rattle.crowding.proofs.on_tracks.Goals.{Start}
 use Rattle.crowding.proofs.on_tracks.Goals as goal
 
 -- the tracks rise
-risen-x : (s : Start) → Rising s.args.x.at s.args.x.count
-risen-x s = let g = s.args in to_edges (spans g.n g.x0.now g.x1.now g.c.now) g.size.w [] g.x s.requires.on_x
-
-risen-y : (s : Start) → Rising s.args.y.at s.args.y.count
-risen-y s = let g = s.args in to_edges (spans g.n g.y0.now g.y1.now g.c.now) g.size.h [] g.y s.requires.on_y
-
 pub edges-requires : goal.edges-requires
-edges-requires c =
-    (c.blank-flat.ensures, c.blank-tall.ensures, c.requires.on_x.few, c.requires.on_y.few, c.requires.few, risen-x c.before.before.before.before.before.before.before.before, risen-y c.before.before.before.before.before.before.before.before)
+edges-requires c = (
+  c.blank-flat.ensures,
+  c.blank-tall.ensures,
+  c.requires.on_x.few,
+  c.requires.on_y.few,
+  c.requires.few,
+  to_edges _ _ _ _ c.requires.on_x,
+  to_edges _ _ _ _ c.requires.on_y,
+)
 
 pub overflow_sub-ny : goal.overflow_sub-ny
 overflow_sub-ny c = omega (arith, track_two c.requires.on_y c.requires.high)

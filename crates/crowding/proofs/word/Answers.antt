@@ -1,7 +1,6 @@
 -- `crowding::word` meets its contract: w is the number of the bits from t on, before b.
 use native.Mathlib.Omega.{arith}
 use Prim.Native.Nat.{◌-◌}
-use mathlib.Core.Path.{◌≡◌}
 use Rattle.crowding.specs.Filling.{is_clear}
 use Rattle.crowding.specs.Laws.Marking.{digit_le, number_small, number_none, number_down}
 use Rattle.crowding.proofs.word.Goals as goal
@@ -25,9 +24,3 @@ loop-t-preserved c =
     let g = c.args in
     let f = is_clear g.upright g.shut.now g.k in
     (omega arith, omega arith, rw c.bit.ensures (number_down f c.loop-t.t g.b c.loop-t.w (omega arith) (omega arith) c.loop-t.invariant.2))
-
-pub returns : goal.returns
-returns c =
-    let g = c.args in
-    let e : c.loop-t.t ≡ g.a = omega arith in
-    rw e at c.loop-t.invariant.2
