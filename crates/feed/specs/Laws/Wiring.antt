@@ -16,7 +16,7 @@ use Rattle.paper.specs.declared.Question.{Question}
 use Rattle.paper.specs.Limits.{most_corners}
 use Rattle.paper.specs.Grid.{Node, Dir, Grid, Any, Pairs, Blocked, node, step, rank, grid_with}
 use Rattle.paper.specs.Wire.{Legal, AnsweredIn, corners, turns, runs}
-use Rattle.paper.specs.Layout.{Thing, wire, id_of, Sort, keep_outs, wires, Below, blocks_to, block_count, grid_of, OnBoard, Layout, InRange}
+use Rattle.paper.specs.Layout.{Thing, id_of, Sort, keep_outs, wires, Below, blocks_to, block_count, grid_of, OnBoard, Layout, InRange}
 use Rattle.paper.specs.Padding.{filled}
 use Rattle.paper.specs.Answer.{named, plain, ◌if◌, Gives, source, target, BarsNode, Blocking, NoWire, TheWire, way, TooManyRuns, pin_checks}
 use Rattle.paper.specs.Laws.Back.{length_runs}
@@ -26,7 +26,6 @@ use Rattle.paper.specs.Laws.Lists.{any_imp}
 use Rattle.paper.specs.Laws.Smallest.{HasId, above}
 use Rattle.paper.specs.Laws.Standing.{thing_at}
 use Rattle.paper.specs.Laws.Least.{one_in, in_legal}
-use Rattle.paper.specs.Laws.Says.{said}
 use Rattle.paper.specs.Laws.Covering.{inside_barred}
 use Rattle.paper.specs.Laws.Joins.{joined}
 use Rattle.blocks.specs.declared.Blocks.{Blocks}

@@ -1,5 +1,4 @@
 -- `feed::wires::id_at` meets its contract: within the list, what stands at a place does not depend on what stands past its end.
--- Assumes nothing.
 use Prim.Native.Nat.{ℕ, ◌<◌}
 use native.Mathlib.Omega.{arith}
 use mathlib.Core.Path.{◌≡◌, sym, ap, ◌∙◌}
@@ -10,23 +9,13 @@ use borrow.Author.Rules.{rules}
 use Rattle.paper.specs.declared.Item.{Item}
 use Rattle.paper.specs.Padding.{no_item}
 use Rattle.paper.specs.Laws.Lists.{length_mapped}
-use Rattle.feed.proofs.wires.id_at.Statement.{statement}
-use Rattle.feed.proofs.wires.id_at.Tie as tie
+use Rattle.feed.proofs.wires.id_at.Goals as goal
 
 same_id : (l : List Item) (i : ℕ) (d e : Item) → i < length l → (get_or l i d).id ≡ (get_or l i e).id
 same_id l i d e h = ap (λ m. m.id) (sym (ap (λ l. get_or l i d) (set-get_or l i e)) ∙ get_or-set_same l i (get_or l i e) d h)
 
-mul-result : tie.Need-overflow-mul-result
-mul-result c = search rules
-
-element-copy-out-result : tie.Need-element-copy-out-result
-element-copy-out-result c = search rules
-
-returns : tie.Need-returns
+pub returns : goal.returns
 returns c =
-    let long : length c.args.t1 ≡ 46 = search (rules, length_mapped) in
-    let h : c.args.i < length c.args.t1 = omega arith in
-    same_id c.args.t1 c.args.i _ no_item h
-
-pub id-at-spec : {M : Type 1} → statement M
-id-at-spec = tie.close (tie.spec mul-result element-copy-out-result returns)
+    let long : length c.args.items ≡ 46 = search (rules, length_mapped) in
+    let h : c.args.i < length c.args.items = omega arith in
+    same_id c.args.items c.args.i _ no_item h
