@@ -60,8 +60,8 @@ of_board-held-requires c = drawn-board _ c.requires
 pub fault_of-fault-requires : goal.fault_of-fault-requires
 unfolding layout_of
 fault_of-fault-requires c =
-    let r = runs-few _ (said c.count_fits.ensures c.if-not-count_fits.false) in
-    ((layout_of c.args.board, refl, c.of_board-held.ensures, (now-laid c.args.board c.requires c.if-board-eq0.false).fits.two.each), r.2)
+    let f = said c.count_fits.ensures c.if-not-count_fits.false in
+    ((layout_of c.args.board, refl, c.of_board-held.ensures, (now-laid c.args.board c.requires c.if-board-eq0.false).fits.two.each), omega (arith, f.2, f.3))
 
 pub returns-then-fault-ne0 : goal.returns-then-fault-ne0
 returns-then-fault-ne0 c =
@@ -70,10 +70,10 @@ returns-then-fault-ne0 c =
     faulty _ _ (some-bounds c.args.board c.if-board-eq0.false) f c.fault_of-fault.result s c.if-fault-ne0.true _ c.refused-then-fault-ne0.ensures
 
 pub pins_of-requires : goal.pins_of-requires
-pins_of-requires c = (runs-few _ (said c.count_fits.ensures c.if-not-count_fits.false)).2
+pins_of-requires c = let f = said c.count_fits.ensures c.if-not-count_fits.false in omega (arith, f.2, f.3)
 
 pub long-requires : goal.long-requires
-long-requires c = (runs-few _ (said c.count_fits.ensures c.if-not-count_fits.false)).2
+long-requires c = let f = said c.count_fits.ensures c.if-not-count_fits.false in omega (arith, f.2, f.3)
 
 pub excess-requires : goal.excess-requires
 unfolding layout_of

@@ -12,9 +12,6 @@ use Rattle.drawn.proofs.corners.wire_of.Goals as goal
 half : (ns : List ℕ) → CountFits ns → let n = length ns / 2 in (length ns ≡ n + n) × (n ≤ 25) × (2 ≤ n)
 half ns f = omega (arith, f.1, f.2, f.3)
 
-pub loop-k-smaller : goal.loop-k-smaller
-loop-k-smaller c = omega arith
-
 pub loop-k-preserved : goal.loop-k-preserved
 loop-k-preserved c =
     let h = half _ c.requires in (
