@@ -46,12 +46,12 @@ fill_more {file} {buffer} {after} {at' = at'} {waiting = waiting} {r = r} f h k 
 
 -- ---- a buffer more
 
-pub leads_join : {file : List ℕ} {at n at₁ n₁ at₂ n₂ : ℕ} {b b₁ b₂ : Board} {ts us : List Stepped}
+pub leads_join : {file : List ℕ} {at n at₁ n₁ : ℕ} {b b₁ : Board} {at₂ n₂ : ℕ} {b₂ : Board} {ts us : List Stepped}
     → Leads file at n b ts at₁ n₁ b₁ → Leads file at₁ n₁ b₁ us at₂ n₂ b₂ → Leads file at n b (ts ++ us) at₂ n₂ b₂
 leads_join {ts = ts} p here = rw append-nil p
 leads_join {ts = ts} p (further {ts = us} q t h k s) = rw (← append_assoc) (further (leads_join p q) t h k s)
 
-pub leads_count : {file : List ℕ} {at n at' n' : ℕ} {b b' : Board} {ts : List Stepped} → Leads file at n b ts at' n' b' → n' ≡ n + length ts
+pub leads_count : {file : List ℕ} {at n : ℕ} {b : Board} {at' n' : ℕ} {b' : Board} {ts : List Stepped} → Leads file at n b ts at' n' b' → n' ≡ n + length ts
 leads_count here = omega arith
 leads_count (further {ts = ts} q t h k s) = omega (arith, leads_count q, length-append ts (t ∷ []))
 
@@ -72,7 +72,7 @@ fills_over {file} {buffer} {p = p} {r = r} f h k = go f.full
     go (inl o) = o
     go (inr l) = absurd (omega (arith, none))
 
-leads_printing : {file : List ℕ} {at n at' n' : ℕ} {b b' : Board} {ts : List Stepped} (us : List Stepped) (end : ℕ)
+leads_printing : {file : List ℕ} {at n : ℕ} {b : Board} {at' n' : ℕ} {b' : Board} {ts : List Stepped} (us : List Stepped) (end : ℕ)
     → Leads file at n b ts at' n' b' → Printing file at' n' b' us end → Printing file at n b (ts ++ us) end
 unfolding Printing
 leads_printing us end here p = p
