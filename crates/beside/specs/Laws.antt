@@ -5,10 +5,9 @@ use Rattle.std.proofs.Common.{arith, sym, ap, subst, ◌∙◌, inl, inr}
 use Rattle.paper.specs.declared.Board.{Board}
 use Rattle.paper.specs.declared.Reply.{Reply}
 use Rattle.paper.specs.Layout.{Layout, fresh, Sound}
-use Rattle.paper.specs.Padding.{board_of, WellFormed}
+use Rattle.paper.specs.Padding.{board_of, Holds, WellFormed}
 use Rattle.paper.specs.declared.Record.{Record}
 use Rattle.paper.specs.declared.Record.TheVariants.{Bounds, KeepOut, Lay, Ask, TakeOut, Undo, Malformed}
-use Rattle.paper.specs.Reading.{fields_of}
 use Rattle.paper.specs.Answer.{plain, BeforeBounds, Outcome, Does, flat, Fed}
 use Rattle.paper.specs.Laws.Back.{layout_of, held, one_layout, well_formed}
 use Rattle.paper.specs.Laws.One.{tells_same, one_reply}
@@ -151,16 +150,24 @@ leaves_same b bytes s s' r (inr p) (inr k) = go r.code refl
 
 -- ---- one sheet
 
+holds_well : (b : Board) (l : Layout) → Holds b l → WellFormed b
+unfolding WellFormed
+holds_well b l h = (l, h)
+
+holds_agrees : (b : Board) (i : Index) (l : Layout) → Holds b l → IndexOf l i → Agrees b i
+unfolding Agrees
+holds_agrees b i l h x = (l, h, x)
+
 pub one_crowding : (b : Board) (i : Index) (r s : Crowding) → Crowds b i r → Crowds b i s → r ≡ s
 unfolding Crowds
 one_crowding b i r s (inl p) (inl q) = p.1 ∙ sym q.1
 one_crowding b i r s (inl p) (inr (inl q)) = absurd (p.0 q.0)
-one_crowding b i r s (inl p) (inr (inr q)) = absurd (p.0 (unfold WellFormed in (q.0, q.1)))
+one_crowding b i r s (inl p) (inr (inr q)) = absurd (p.0 (holds_well b q.0 q.1))
 one_crowding b i r s (inr (inl p)) (inl q) = absurd (q.0 p.0)
 one_crowding b i r s (inr (inl p)) (inr (inl q)) = p.2 ∙ sym q.2
-one_crowding b i r s (inr (inl p)) (inr (inr q)) = absurd (p.1 (unfold Agrees in (q.0, q.1, q.2)))
-one_crowding b i r s (inr (inr p)) (inl q) = absurd (q.0 (unfold WellFormed in (p.0, p.1)))
-one_crowding b i r s (inr (inr p)) (inr (inl q)) = absurd (q.1 (unfold Agrees in (p.0, p.1, p.2)))
+one_crowding b i r s (inr (inl p)) (inr (inr q)) = absurd (p.1 (holds_agrees b i q.0 q.1 q.2))
+one_crowding b i r s (inr (inr p)) (inl q) = absurd (q.0 (holds_well b p.0 p.1))
+one_crowding b i r s (inr (inr p)) (inr (inl q)) = absurd (q.1 (holds_agrees b i p.0 p.1 p.2))
 one_crowding b i r s (inr (inr (l, h, x, inl p))) (inr (inr (m, k, y, inl q))) = p.1 ∙ sym q.1
 one_crowding b i r s (inr (inr (l, h, x, inl p))) (inr (inr (m, k, y, inr q))) = absurd (q.0 (rw (one_layout b m l k h) p.0))
 one_crowding b i r s (inr (inr (l, h, x, inr p))) (inr (inr (m, k, y, inl q))) = absurd (p.0 (rw (one_layout b l m h k) q.0))
