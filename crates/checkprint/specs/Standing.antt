@@ -4,7 +4,6 @@ use Rattle.std.specs.Prelude.{ℕ, ◌+◌, ◌≤◌, ◌<◌, ◌≡◌, ◌�
 use Rattle.paper.specs.declared.Board.{Board}
 use Rattle.paper.specs.Layout.{fresh}
 use Rattle.paper.specs.Padding.{board_of, WellFormed}
-use Rattle.checkprint.specs.declared.Last.{Last}
 use Rattle.checkprint.specs.declared.Last.TheVariants.{End, Bad, Cut}
 use Rattle.checkprint.specs.declared.Stop.{Stop}
 use Rattle.checkprint.specs.declared.Stop.TheVariants as stop
