@@ -11,14 +11,36 @@ fail() {
   exit "$status"
 }
 
-# prove NAME: proves and builds a program where that has not been done, and says which of how many it is proving.
+# program NAME: where the proved program of a crate stands once it is built.
+program() { echo "$here/crates/$1/out/$1"; }
+
+# prove NAME: proves and builds a program where that has not been done, and says which of how many crates it is proving.
+# What took no second is not told.
 prove() {
-  local crates
-  crates=$(rests_on "$1")
-  [ -e "$here/target/bin/$1" ] || tell "proving $(wc -l <<<"$crates") crates; some minutes the first time"
-  if ! (cd "$here" && rt check "$1") 2>&1 | progress "$crates" >&2; then
-    fail 1 "the program could not be proved and built; 'rt check $1' says why"
-  fi
+  local crates number=0 count name next began took
+  crates=$(rests_on "$1" | cut -d: -f1)
+  built "$1" "$crates" && return
+  count=$(wc -l <<<"$crates")
+  [ -e "$(program "$1")" ] || tell "proving $count crates; some minutes the first time"
+  for name in $crates; do
+    number=$((number + 1)) began=${EPOCHREALTIME/./}
+    (cd "$here/crates/$name" && rt "$([ "$name" = "$1" ] && echo run || echo lib)") </dev/null >"$scratch/proving" 2>&1 || {
+      grep '^rt:' "$scratch/proving" >&2 || true
+      fail 1 "the program could not be proved and built; 'rt check' in crates/$name says why"
+    }
+    next=$(sed -n "$((number + 1))p" <<<"$crates")
+    took=$(((${EPOCHREALTIME/./} - began) / 1000000))
+    [ $took -eq 0 ] || tell "proved $number of $count: $name ($took s)${next:+; now: $next}"
+  done
+}
+
+# built NAME CRATES: is the program newer than all that it is made from?
+built() {
+  local made folders=()
+  made=$(program "$1")
+  [ -e "$made" ] || return 1
+  for name in $2; do folders+=("$here/crates/$name"); done
+  [ -z "$(find "$here/crates.txt" "${folders[@]}" -name out -prune -o -type f -newer "$made" -print -quit)" ]
 }
 
 # rests_on NAME: a crate and those it rests on, a line for each: NAME: those it rests on
@@ -35,39 +57,16 @@ rests_on() {
     END { want(name); for (i = 1; i <= count; i++) if (order[i] in wanted) print order[i] ":" needs[order[i]] }' "$here/crates.txt"
 }
 
-# progress CRATES: turns what rt says into 'proved 3 of 19: records (12 s); now of these: walks blocks'. Those are the ones
-# whose turn it can be, as rt proves several at once. What is unchanged is not told.
-progress() {
-  CRATES=$1 awk -v me="$me" '
-    BEGIN {
-      number = split(ENVIRON["CRATES"], lines, "\n")
-      for (i = 1; i <= number; i++) { split(lines[i], halves, ":"); names[i] = halves[1]; needs[halves[1]] = halves[2] }
-    }
-    function ready(crate, rests, count, j) {
-      count = split(needs[crate], rests, " ")
-      for (j = 1; j <= count; j++) if (rests[j] in needs && !(rests[j] in proved)) return 0
-      return !(crate in proved)
-    }
-    /^rt: [^ ]+ proved \(/ { proved[$2] = 1; done++ }
-    /^rt: [^ ]+ proved \([0-9]/ {
-      turn = ""
-      for (i = 1; i <= number; i++) if (ready(names[i])) turn = turn " " names[i]
-      printf "%s: proved %d of %d: %s %s %s%s\n", me, done, number, $2, $4, $5, turn == "" ? "" : "; now of these:" turn
-      fflush()
-    }
-    /^rt: / && !/^rt: [^ ]+ proved \(/ && !/^rt: ok/ && !/^rt: [^ ]+ ran/ { print me ": " substr($0, 5); fflush() }'
-}
-
 # run_program NAME: the proved program, from standard input to standard output. It is for x86-64; elsewhere it runs under
 # the kit's emulator. A Rattle program cannot set its exit status, so its words on standard error do.
 run_program() {
   local way=() tools told ended=0
   if [ "$(uname -m)" != x86_64 ]; then
-    tools=$(dirname "$(dirname "$(rt doc)")")/on/$(uname -m)/toolchain
+    tools=$(dirname "$(rt doc)")/toolchain
     way=("$tools/bin/qemu-x86_64" "$tools/lib/ld-linux-x86-64.so.2" --library-path "$tools/lib")
   fi
   told=$scratch/told
-  "${way[@]}" "$here/target/bin/$1" 2>"$told" || ended=$?
+  "${way[@]}" "$(program "$1")" 2>"$told" || ended=$?
   # Nobody reads the output any more, which is no one's fault.
   [ "$ended" -ne 141 ] || exit 141
   [ "$ended" -eq 0 ] || fail 1 "$1 ended with status $ended"

@@ -73,9 +73,9 @@ impl Way {
     }
 }
 
-/// Where `rt check` leaves the proved program of a crate.
+/// Where `rt run` leaves the proved program of a crate.
 pub fn proved(crate_name: &str) -> PathBuf {
-    bench_folder().with_file_name("target/bin").join(crate_name)
+    bench_folder().with_file_name("crates").join(crate_name).join("out").join(crate_name)
 }
 
 /// Fails if there is no such program; `crate_name` is the one it is made from.
@@ -83,7 +83,7 @@ pub fn check_there(program: &Path, crate_name: &str) -> Result<(), String> {
     if program.is_file() {
         return Ok(());
     }
-    Err(format!("no program at {}; run 'rt check {crate_name}' first", program.display()))
+    Err(format!("no program at {}; run 'rt run' in crates/{crate_name} first", program.display()))
 }
 
 fn head(program: &Path) -> std::io::Result<Vec<u8>> {

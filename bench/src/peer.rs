@@ -86,7 +86,7 @@ pub fn compile_as_proved(source: &Path, binary: &Path) -> Result<(), String> {
     let mut clang = clang(source)?;
     clang.arg(format!("--target={PROVED_TARGET}")).args(["-fPIE", "-c", "-o"]);
     run(clang.args([&object, source]))?;
-    let mut link = Command::new(kit::own_part()?.join("bin/rattle-link"));
+    let mut link = Command::new(kit::folder()?.join("bin/rattle-link"));
     link.args(["--target", PROVED_TARGET, "--toolchain"]).arg(kit::toolchain()?);
     run(link.arg("-o").args([binary, &object]))
 }

@@ -158,7 +158,7 @@ fn a_missing_program_is_told() {
     let output = bench_compare(&scratch("none"), &[]);
     let told = text(&output.stderr);
     assert!(
-        told.starts_with("bench compare: no program at ") && told.contains("'rt check trackprint'"),
+        told.starts_with("bench compare: no program at ") && told.contains("'rt run' in crates/trackprint"),
         "{told}"
     );
     assert_eq!(output.status.code(), Some(1));

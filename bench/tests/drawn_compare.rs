@@ -102,7 +102,7 @@ fn named_files_are_compared() {
 #[test]
 fn a_missing_program_is_told() {
     let output = bench_compare(&scratch("none"), &[]);
-    assert!(text(&output.stderr).contains("run 'rt check checkprint' first"));
+    assert!(text(&output.stderr).contains("run 'rt run' in crates/checkprint first"));
     assert_eq!(output.status.code(), Some(1));
 }
 

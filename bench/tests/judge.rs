@@ -161,5 +161,5 @@ fn what_is_wrong_is_told() {
     let output = judge(sound(), &scratch("no-such.txt"));
     assert!(text(&output.stderr).starts_with("bench judge: cannot read "));
     let output = judge(&scratch("none"), &two);
-    assert!(text(&output.stderr).contains("run 'rt check checkprint' first"));
+    assert!(text(&output.stderr).contains("run 'rt run' in crates/checkprint first"));
 }

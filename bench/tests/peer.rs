@@ -257,7 +257,7 @@ fn a_missing_program_is_told() {
     let output = bench_time(&Path::new(env!("CARGO_TARGET_TMPDIR")).join("none"));
     let told = String::from_utf8_lossy(&output.stderr).into_owned();
     assert!(
-        told.starts_with("bench time: no program at ") && told.contains("'rt check ask'"),
+        told.starts_with("bench time: no program at ") && told.contains("'rt run' in crates/ask"),
         "{told}"
     );
     assert_eq!(output.status.code(), Some(1));

@@ -22,19 +22,21 @@ impl Copy {
         let (folder, original) = (scratch(name), bench_folder().join(".."));
         let _ = fs::remove_dir_all(&folder);
         let make = |part: &str| fs::create_dir_all(folder.join(part)).expect("a folder");
-        ["bench/target/release", "target/bin", "crates/trackprint", "tools", "work"]
+        ["bench/target/release", "crates/trackprint/out", "tools", "work"]
             .iter()
             .for_each(|part| make(part));
         for part in ["sheet", "board", ".ci"] {
             symlink(original.join(part), folder.join(part)).expect("a link");
         }
-        fs::write(folder.join("crates.txt"), CRATES).expect("a file");
+        ["paper", "records", "feed", "sheet"].iter().for_each(|name| make(&format!("crates/{name}")));
         fs::write(folder.join("crates/trackprint/stdin"), worked_input()).expect("a file");
         let link = |from: &Path, to: &str| symlink(from, folder.join(to)).expect("a link");
         link(Path::new(env!("CARGO_BIN_EXE_bench")), "bench/target/release/bench");
-        link(&script(&format!("{name}-program"), program), "target/bin/trackprint");
+        link(&script(&format!("{name}-program"), program), "crates/trackprint/out/trackprint");
         link(&script(&format!("{name}-rt"), RT), "tools/rt");
         link(&script(&format!("{name}-cargo"), "exit 0"), "tools/cargo");
+        // Newer than the program, so that it is to be made again.
+        fs::write(folder.join("crates.txt"), CRATES).expect("a file");
         Copy { folder }
     }
 
@@ -63,12 +65,11 @@ impl Copy {
     }
 }
 
-/// Says what `rt check` says of a crate that is proved and of one that was.
-const RT: &str = "echo 'rt: paper proved (unchanged since it was last proved)'\n\
-                  echo 'rt: records proved (12 s)'\necho 'rt: ok, all proved'";
+/// Takes a second for one crate, and none for what is proved already.
+const RT: &str = "case $PWD in */records) sleep 1 ;; esac";
 const CRATES: &str = "# NAME: the crates it rests on\npaper:\nrecords: paper\nwalks: paper\n\
                       feed: paper records\nsheet: feed\ntrackprint: sheet io\nask: walks io\n";
-const PROVED: &str = ": proved 2 of 5: records (12 s); now of these: feed\n";
+const PROVED: &str = ": proved 2 of 5: records (1 s); now: feed\n";
 
 fn text(bytes: &[u8]) -> &str {
     std::str::from_utf8(bytes).expect("text")
@@ -180,9 +181,9 @@ fn what_cannot_be_proved_is_told() {
     let output = copy.run("../sheet");
     assert_eq!(output.status.code(), Some(1));
     let told = text(&output.stderr);
-    assert!(told.contains("sheet: paper NOT PROVED (exit 1, 3 s)\n"), "{told}");
+    assert!(told.contains("rt: paper NOT PROVED (exit 1, 3 s)\n"), "{told}");
     assert!(
-        told.contains("could not be proved and built; 'rt check trackprint' says why\n"),
+        told.contains("could not be proved and built; 'rt check' in crates/paper says why\n"),
         "{told}"
     );
     // A program that complains has failed, whatever it prints.

@@ -186,7 +186,7 @@ fn a_missing_program_is_told() {
     let output = command.args(["time", "sheet"]).arg(scratch("none")).output().expect("it runs");
     let told = String::from_utf8_lossy(&output.stderr).into_owned();
     assert!(
-        told.starts_with("bench time: no program at ") && told.contains("'rt check trackprint'"),
+        told.starts_with("bench time: no program at ") && told.contains("'rt run' in crates/trackprint"),
         "{told}"
     );
     assert_eq!(output.status.code(), Some(1));
