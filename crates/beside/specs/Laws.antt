@@ -10,7 +10,8 @@ use Rattle.paper.specs.declared.Record.{Record}
 use Rattle.paper.specs.declared.Record.TheVariants.{Bounds, KeepOut, Lay, Ask, TakeOut, Undo, Malformed}
 use Rattle.paper.specs.Answer.{plain, BeforeBounds, Outcome, Does, flat, Fed}
 use Rattle.paper.specs.Laws.Back.{layout_of, held, one_layout, well_formed}
-use Rattle.paper.specs.Laws.One.{tells_same, one_reply}
+use Rattle.paper.specs.Laws.One.{tells_same}
+use Rattle.paper.proofs.One.{one_reply}
 use Rattle.paper.specs.Laws.Says.{Says, says_as}
 use Rattle.paper.specs.Laws.Feeds.{refusing}
 use Rattle.feed.specs.Feeding.{CaseIs}

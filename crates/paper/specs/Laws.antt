@@ -19,7 +19,6 @@ pub mod Joins
 pub mod Cells
 pub mod Seams
 pub mod Next
-pub mod Kept
 pub mod Shape
 pub mod Filled
 pub mod Standing
@@ -28,9 +27,7 @@ pub mod Joining
 pub mod Closing
 -- demand 3
 pub mod Story
-pub mod Alike
 -- demand 2: every wire that is told
-pub mod Points
 pub mod Detour
 pub mod Length
 pub mod Told
@@ -42,7 +39,6 @@ pub mod Certificate
 pub mod Distances
 pub mod Feeds
 pub mod Smallest
-pub mod TableP
 pub mod Damaged
 pub mod Blamed
 -- wires drawn by hand

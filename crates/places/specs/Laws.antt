@@ -17,7 +17,7 @@ use Rattle.paper.specs.Answer.{Gives, Bars}
 use Rattle.paper.specs.Drawn.{InKeepOut, shape_checks, form_checks, run_check, run_checks}
 use Rattle.paper.specs.Laws.Checks.{Coded, Clear, clear_of, gives_first, gives_then}
 use Rattle.paper.specs.Laws.Says.{Says, says_as, says_always, said, said_not}
-use Rattle.paper.specs.Laws.Bent.{by_turns}
+use Rattle.paper.proofs.Bent.{by_turns}
 use Rattle.blocks.specs.declared.Blocks.{Blocks}
 use Rattle.blocks.specs.declared.Place.{Place}
 use Rattle.blocks.specs.declared.Look.TheVariants.{KeepOuts}

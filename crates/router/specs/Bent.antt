@@ -18,7 +18,8 @@ use Rattle.walks.specs.Crossings.{Crossing}
 use Rattle.walks.specs.Onward.{Counted, uncounted}
 use Rattle.walks.specs.Modes.{price_of}
 use Rattle.walks.specs.Rule.{BlockTracked}
-use Rattle.walks.specs.Route.{tracks, laws}
+use Rattle.walks.specs.Route.{tracks}
+use Rattle.walks.proofs.Route.{laws}
 use Rattle.router.specs.Told.{Lent}
 use Rattle.router.specs.Charts.{tracks_in, Marks, fee_same, leads_iff, searched}
 

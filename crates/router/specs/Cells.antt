@@ -7,7 +7,7 @@ use Rattle.paper.specs.Grid.{Node, Dir, Grid, grid_with}
 use Rattle.paper.specs.Wire.{Legal, AnsweredIn}
 use Rattle.paper.specs.Layout.{Thing, wires, blocks_to, grid_of}
 use Rattle.paper.specs.Laws.Joins.{joined}
-use Rattle.paper.specs.Laws.Seams.{legal_joined, in_joined}
+use Rattle.paper.proofs.Seams.{legal_joined, in_joined}
 use Rattle.router.specs.declared.Routed.{Routed}
 use Rattle.router.specs.Route.{AnswersIn}
 

@@ -26,7 +26,8 @@ use Rattle.walks.specs.Turns.{fresh}
 use Rattle.walks.specs.Tables as tables
 use Rattle.walks.specs.Onward.{Begins}
 use Rattle.walks.specs.Modes.{price_of, best_in}
-use Rattle.walks.specs.Route.{tracks, route, some_route, no_route}
+use Rattle.walks.specs.Route.{tracks}
+use Rattle.walks.proofs.Route.{route, some_route, no_route}
 use Rattle.router.specs.declared.Routed.{Routed}
 use Rattle.router.specs.declared.Route.TheVariants.{Wire, NoWire, TooManyRuns}
 use Rattle.router.specs.Route.{AnswersIn, Found, Written}

@@ -9,7 +9,8 @@ use Rattle.paper.specs.Limits.{most_runs, most_corners}
 use Rattle.paper.specs.Grid.{Node, Dir, Grid}
 use Rattle.paper.specs.Wire.{AnsweredIn, corners, runs_of, detour}
 use Rattle.paper.specs.Padding.{filled}
-use Rattle.paper.specs.Laws.Least.{one_in, in_legal, in_shortest}
+use Rattle.paper.proofs.Least.{one_in}
+use Rattle.paper.specs.Laws.Least.{in_legal, in_shortest}
 use Rattle.router.specs.declared.Routed.{Routed}
 use Rattle.router.specs.declared.Route.{Route}
 use Rattle.router.specs.declared.Route.TheVariants.{Wire, NoWire, TooManyRuns}

@@ -24,7 +24,6 @@ pub mod Search
 pub mod Onward
 -- it is the answered wire in each mode; what its corners are
 pub mod Modes
-pub mod Written
 -- the paper's rule obeys the laws; all together
 pub mod Rule
 pub mod Route

@@ -1,14 +1,13 @@
 -- The ways between neighbouring crossings: open where their unit edges are, and as long as their tracks are apart.
 -- Assumes nothing.
 use Rattle.std.specs.Prelude.{ℕ, suc, ◌≤◌, ◌<◌, ◌≡◌, ◌↔◌}
-use Rattle.std.proofs.Common.{arith, ap, ⊎_elim}
+use Rattle.std.proofs.Common.{arith, ap}
 use Rattle.paper.specs.Grid.{Node, Dir, step, Axis, level, upright, Grid, Free}
 use Rattle.paper.specs.Wire.{gap}
 use Rattle.paper.specs.Layout.{across}
 use Rattle.paper.specs.Laws.Steps.{axis_of}
 use Rattle.walks.specs.Axes.{coord, place, coord_place, Sense, up, down, sense_of, Further, lower, lands, EdgeAt, Hop, hop}
 use Rattle.walks.specs.Tracks.{Tracks, Rising, InSlab, on_board}
-use Rattle.walks.specs.Beside.{Beside, beside_last, beside_cases}
 use Rattle.walks.specs.Crossings.{crossings, far, Sliced, edge_along}
 
 -- ---- a way, and the step between crossings that takes it
@@ -55,15 +54,8 @@ module _ {G : Grid} {T : Axis → Tracks} (sliced : Sliced G T) where
   -- ---- a way and its unit edges
 
   -- a track stands at the low end of its slab
-  low_end : (a : Axis) (i : ℕ) → i < (T a).last → InSlab (T a) i ((T a).track i)
+  pub low_end : (a : Axis) (i : ℕ) → i < (T a).last → InSlab (T a) i ((T a).track i)
   low_end a i p = omega (arith, (sliced.rising a).inc i p)
-
-  -- Where a unit edge is open, the way through its slab is so on each track beside it;
-  pub way_open : (a : Axis) (u v i j g : ℕ) → InSlab (T a) i u → Beside (T (across a)) v j g → EdgeAt G a u v → EdgeAt (crossings T G) a i j
-  way_open a u v i j g h b f =
-      let k = sliced.along a i u ((T a).track i) v h (low_end a i h.some) f.2 in
-      let open_there = ⊎_elim (λ e. rw e k) (λ w. sliced.aside a ((T a).track i) _ v w k) (beside_cases b) in
-      (way_edge G T a i j).1 (h.some, beside_last b, open_there)
 
   -- and where a way is open, so is each of its unit edges.
   pub way_free : (a : Axis) (u i j : ℕ) → InSlab (T a) i u → EdgeAt (crossings T G) a i j → EdgeAt G a u ((T (across a)).track j)

@@ -7,7 +7,8 @@ use Rattle.paper.specs.declared.Judged.{Judged}
 use Rattle.paper.specs.Grid.{Node}
 use Rattle.paper.specs.Layout.{Layout}
 use Rattle.paper.specs.Drawn.{drawn, judgement, Judges}
-use Rattle.paper.specs.Laws.Named.{Named, none, shape, place, run_named}
+use Rattle.paper.specs.Laws.Named.{Named, none, shape, place}
+use Rattle.paper.proofs.Named.{run_named}
 use Rattle.text.specs.Text.{Part, number, byte}
 use Rattle.sheet.specs.Sheet.{space, line_end}
 use Rattle.checkprint.specs.Checked.{told_in, told_of, line_of}

@@ -9,7 +9,7 @@ use Rattle.paper.specs.Layout.{Thing, Sort, blocks_to, InRange}
 use Rattle.paper.specs.Padding.{WellFormed}
 use Rattle.paper.specs.Laws.Back.{layout_of, well_formed}
 use Rattle.paper.specs.Laws.Next.{laid}
-use Rattle.paper.specs.Laws.Seams.{open_iff}
+use Rattle.paper.proofs.Seams.{open_iff}
 use Rattle.blocks.specs.declared.Blocks.{Blocks}
 use Rattle.blocks.specs.Flat.{listed, block_at, first_at, Held}
 use Rattle.blocks.specs.Laws.Board.{drawn}

@@ -19,6 +19,7 @@ use Rattle.walks.specs.Tracks.{InSlab, on_board}
 use Rattle.walks.specs.Crossings.{Sliced, edge_along}
 use Rattle.walks.specs.Rule.{span}
 use Rattle.walks.specs.Route as route
+use Rattle.walks.proofs.Route.{laws}
 use Rattle.router.specs.Charts.{tracks_in, Marks}
 use Rattle.router.specs.Lines.{all_tracked, all_marked}
 use Rattle.index.specs.declared.Edges.{Edges}
@@ -100,7 +101,7 @@ module _ (w h : ℕ) (x0 y0 x1 y1 c : List ℕ) (n : ℕ) (x y : Tracks) (tx : A
   marked = all_marked w h x0 y0 x1 y1 c n [] [] x y tx ty hw hh flat tall mf mt
 
   cut : Sliced G lanes
-  cut = route.laws marked.rise_x marked.rise_y (joined bs) (all_tracked w h x0 y0 x1 y1 c n [] [] x y tx ty hw hh)
+  cut = laws marked.rise_x marked.rise_y (joined bs) (all_tracked w h x0 y0 x1 y1 c n [] [] x y tx ty hw hh)
 
   open_upright : (i j : ℕ) → i < x.count → j + 1 < y.count
       → (get_or tall (cell_of true i j) 0 ≡ 0) ↔ OpenWay G upright (track y j) (track y (j + 1)) (track x i)

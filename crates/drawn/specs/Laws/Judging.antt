@@ -18,10 +18,11 @@ use Rattle.paper.specs.Drawn.{drawn, CountFits, shape_checks, run_checks, corner
 use Rattle.paper.specs.Laws.Back.{layout_of, well_formed}
 use Rattle.paper.specs.Laws.Checks.{Clear, clear_of, of_clear, clear_split}
 use Rattle.paper.specs.Laws.Walked.{clear_ends}
-use Rattle.paper.specs.Laws.Drawn.{length_drawn, corner_coded, shut, turns_of, runs_clear, found}
+use Rattle.paper.specs.Laws.Drawn.{length_drawn, corner_coded, shut}
+use Rattle.paper.proofs.Drawn.{turns_of, runs_clear, found}
 use Rattle.paper.specs.Laws.Apart.{blocked_left}
 use Rattle.paper.specs.Laws.Joins.{joined}
-use Rattle.paper.specs.Laws.Seams.{legal_joined}
+use Rattle.paper.proofs.Seams.{legal_joined}
 use Rattle.blocks.specs.declared.Blocks.{Blocks}
 use Rattle.blocks.specs.Flat.{listed, flat, Fits, HeldOf}
 use Rattle.blocks.specs.Growing.{corner_at}

@@ -23,10 +23,10 @@ use Rattle.paper.specs.Laws.Back.{layout_of, one_layout}
 use Rattle.paper.specs.Laws.Read.{one_record}
 use Rattle.paper.specs.Laws.Checks.{Spared}
 use Rattle.paper.specs.Laws.Next.{spares}
-use Rattle.paper.specs.Laws.One.{one_reply}
-use Rattle.paper.specs.Laws.Story.{history}
-use Rattle.paper.specs.Laws.Alike.{answer_alike}
-use Rattle.paper.specs.Laws.TableP.{table_p_lem}
+use Rattle.paper.proofs.One.{one_reply}
+use Rattle.paper.proofs.Story.{history}
+use Rattle.paper.proofs.Alike.{answer_alike}
+use Rattle.paper.proofs.TableP.{table_p_lem}
 use Rattle.feed.specs.Laws.Wiring.{clear_node}
 use Rattle.feed.specs.Demands.{Router, Feeds, Asking, calls_of, left_by, Made, RefusesAll, OneWire, OnlyFirst, SpeaksRefusing}
 

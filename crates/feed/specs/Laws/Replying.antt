@@ -23,7 +23,7 @@ use Rattle.paper.specs.Reading.{Reads}
 use Rattle.paper.specs.Answer.{plain, Gives, verdict, BeforeBounds, checks, add_to, take_from, Outcome, quiet, Does, flat, Tells, Replies, Fed}
 use Rattle.paper.specs.Laws.Back.{thing_of, layout_of, well_formed}
 use Rattle.paper.specs.Laws.Feeds.{refusing}
-use Rattle.paper.specs.Laws.Kept.{replied}
+use Rattle.paper.proofs.Kept.{replied}
 use Rattle.paper.specs.Laws.Checks.{Spared}
 use Rattle.paper.specs.Laws.Next.{spares, laid}
 use Rattle.paper.specs.Laws.Shape.{items_few}

@@ -13,7 +13,8 @@ use Rattle.paper.specs.Laws.Lists.{any_imp}
 use Rattle.paper.specs.Laws.Says.{Says, says_as, says_always, said, said_not}
 use Rattle.paper.specs.Laws.Covering.{seamed_more}
 use Rattle.paper.specs.Laws.Seams.{solid}
-use Rattle.paper.specs.Laws.Closing.{box, Crossed, closes_iff}
+use Rattle.paper.specs.Laws.Closing.{box, Crossed}
+use Rattle.paper.proofs.Closing.{closes_iff}
 use Rattle.blocks.specs.declared.Blocks.{Blocks}
 use Rattle.blocks.specs.declared.Look.TheVariants.{Wires}
 use Rattle.blocks.specs.Flat.{Hit, HeldOf}

@@ -21,7 +21,8 @@ use Rattle.paper.specs.Answer.{plain, Check, ◌if◌, Gives, source, target, Be
 use Rattle.paper.specs.Laws.Back.{nodes, thing_of, layout_of, well_formed, ReadsBack, wire_back}
 use Rattle.paper.specs.Laws.Checks.{Coded, Clear, clear_of, of_clear, gives_first, gives_then}
 use Rattle.paper.specs.Laws.Feeds.{refusing}
-use Rattle.paper.specs.Laws.Least.{one_in, in_legal}
+use Rattle.paper.proofs.Least.{one_in}
+use Rattle.paper.specs.Laws.Least.{in_legal}
 use Rattle.paper.specs.Laws.Standing.{well_standing}
 use Rattle.items.specs.Items.{Whole}
 use Rattle.feed.specs.declared.Wired.{Wired}

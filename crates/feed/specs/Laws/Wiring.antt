@@ -25,8 +25,9 @@ use Rattle.paper.specs.Laws.Drawn.{none_among}
 use Rattle.paper.specs.Laws.Lists.{any_imp}
 use Rattle.paper.specs.Laws.Smallest.{HasId, above}
 use Rattle.paper.specs.Laws.Standing.{thing_at}
-use Rattle.paper.specs.Laws.Least.{one_in, in_legal}
-use Rattle.paper.specs.Laws.Covering.{inside_barred}
+use Rattle.paper.proofs.Least.{one_in}
+use Rattle.paper.specs.Laws.Least.{in_legal}
+use Rattle.paper.proofs.Covering.{inside_barred}
 use Rattle.paper.specs.Laws.Joins.{joined}
 use Rattle.blocks.specs.declared.Blocks.{Blocks}
 use Rattle.blocks.specs.declared.Found.{Found}

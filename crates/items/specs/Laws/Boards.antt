@@ -12,7 +12,8 @@ use Rattle.paper.specs.Limits.{most_blocks}
 use Rattle.paper.specs.Layout.{Thing, add, without}
 use Rattle.paper.specs.Padding.{filled, item_of, no_item, board_of}
 use Rattle.paper.specs.Laws.Back.{thing_of, layout_of, ReadsBack, board_back}
-use Rattle.paper.specs.Laws.Among.{all_add, all_without}
+use Rattle.paper.specs.Laws.Among.{all_add}
+use Rattle.paper.proofs.Among.{all_without}
 use Rattle.paper.specs.Laws.Filled.{put_at, left_at, length_left}
 use Rattle.paper.specs.Laws.Standing.{Standing, standing, thing_id, count_is}
 use Rattle.items.specs.declared.Found.TheVariants.{At}

@@ -1,11 +1,11 @@
 -- An item put among the others and taken out again; what holds of all items, and of each two.
 -- Assumes nothing.
 use Rattle.std.specs.Prelude.{ℕ, ◌≤◌, ◌<◌, ◌≡◌, refl, Bool, true, false, not, cond, ◌⊎◌, List, [], ◌∷◌, T, ltb, eqb}
-use Rattle.std.proofs.Common.{arith, sym, ap, subst, ◌∙◌, inl, inr, ⊎_elim, ltb→lt, nltb→le, eqb→eq}
+use Rattle.std.proofs.Common.{arith, sym, ap, subst, inl, inr, ⊎_elim, ltb→lt, nltb→le, eqb→eq}
 use Rattle.std.proofs.Math.Dec.{eqb_refl}
 use Rattle.paper.specs.Grid.{Any, All, Pairs}
-use Rattle.paper.specs.Layout.{Thing, id_of, block_count, Below, add, without, Has, Used}
-use Rattle.paper.specs.Laws.Lists.{all_imp, all_has}
+use Rattle.paper.specs.Layout.{Thing, id_of, block_count, Below, add, without, Used}
+use Rattle.paper.specs.Laws.Lists.{all_imp}
 
 -- ---- the tests on numbers by cases
 
@@ -55,12 +55,6 @@ all_add P t [] p a = rw (add_nil t) (p, tt)
 all_add P t (u ∷ us) p a =
     ⊎_elim (λ c. rw c.1 (a.0, all_add P t us p a.1)) (λ c. rw c.1 (p, a)) (add_cases t u us)
 
-pub all_without : (P : Thing → Type 0) (i : ℕ) (ts : List Thing) → All P ts → All P (without i ts)
-unfolding All
-all_without P i [] a = rw (without_nil i) tt
-all_without P i (u ∷ us) a =
-    ⊎_elim (λ c. rw c.1 a.1) (λ c. rw c.1 (a.0, all_without P i us a.1)) (without_cases i u us)
-
 -- ---- each two items
 
 pub pairs_add : (R : Thing → Thing → Type 0) → ((a b : Thing) → R a b → R b a)
@@ -71,12 +65,6 @@ pairs_add R turn t (u ∷ us) a p =
     ⊎_elim (λ c. rw c.1 (all_add (R u) t us (turn t u a.0) p.0, pairs_add R turn t us a.1 p.1))
     (λ c. rw c.1 (a, p)) (add_cases t u us)
 
-pub pairs_without : (R : Thing → Thing → Type 0) (i : ℕ) (ts : List Thing) → Pairs R ts → Pairs R (without i ts)
-unfolding Pairs
-pairs_without R i [] p = rw (without_nil i) tt
-pairs_without R i (u ∷ us) p =
-    ⊎_elim (λ c. rw c.1 p.1) (λ c. rw c.1 (all_without (R u) i us p.0, pairs_without R i us p.1)) (without_cases i u us)
-
 pub rising_add : (t : Thing) (ts : List Thing) → ¬ (Used ts (id_of t)) → Pairs Below ts → Pairs Below (add t ts)
 unfolding All Pairs Any
 rising_add t [] n p = rw (add_nil t) (tt, tt)
@@ -86,48 +74,6 @@ rising_add t (u ∷ us) n p =
     let before : id_of t < id_of u = omega (arith, c.0) in
     rw c.1 ((before, all_imp (Below u) (Below t) (λ v h. omega arith) us p.0), p)) (add_cases t u us)
 
--- ---- in and out again
-
-pub without_add : (t : Thing) (ts : List Thing) → ¬ (Used ts (id_of t)) → without (id_of t) (add t ts) ≡ ts
-unfolding Any
-without_add t [] n = rw (add_nil t) (⊎_elim (λ c. c.1) (λ c. absurd (c.0 refl)) (without_cases (id_of t) t []))
-without_add t (u ∷ us) n =
-    ⊎_elim (λ c. rw c.1 (⊎_elim (λ d. absurd (n (inl d.0))) (λ d. d.1 ∙ ap (λ l. u ∷ l) (without_add t us (λ h. n (inr h))))
-    (without_cases (id_of t) u (add t us))))
-    (λ c. rw c.1 (⊎_elim (λ d. d.1) (λ d. absurd (d.0 refl)) (without_cases (id_of t) t (u ∷ us)))) (add_cases t u us)
-
--- all the others come after t
-add_front : (t : Thing) (us : List Thing) → All (Below t) us → add t us ≡ t ∷ us
-unfolding All
-add_front t [] a = add_nil t
-add_front t (u ∷ us) a = ⊎_elim (λ c. absurd (omega (arith, c.0, a.0))) (λ c. c.1) (add_cases t u us)
-
-pub add_without : (t : Thing) (ts : List Thing) → Pairs Below ts → Has ts t → add t (without (id_of t) ts) ≡ ts
-unfolding Pairs Any
-add_without t [] p h = absurd h
-add_without t (u ∷ us) p (inl e) =
-    subst (λ v. add v (without (id_of v) (u ∷ us)) ≡ u ∷ us) e
-    (⊎_elim (λ c. rw c.1 (add_front u us p.0)) (λ c. absurd (c.0 refl)) (without_cases (id_of u) u us))
-add_without t (u ∷ us) p (inr h) =
-    let before : id_of u < id_of t = all_has (Below u) us t p.0 h in
-    ⊎_elim (λ c. absurd (omega (arith, c.0)))
-    (λ c. rw c.1 (⊎_elim (λ d. d.1 ∙ ap (λ l. u ∷ l) (add_without t us p.1 h)) (λ d. absurd (omega (arith, d.0)))
-    (add_cases t u (without (id_of t) us))))
-    (without_cases (id_of t) u us)
-
-not_used_after : (i : ℕ) (u : Thing) (us : List Thing) → id_of u ≡ i → All (Below u) us → ¬ (Used us i)
-unfolding All Any
-not_used_after i u [] e a h = h
-not_used_after i u (v ∷ vs) e a (inl h) = omega (arith, a.0)
-not_used_after i u (v ∷ vs) e a (inr h) = not_used_after i u vs e a.1 h
-
-pub not_used_without : (i : ℕ) (ts : List Thing) → Pairs Below ts → ¬ (Used (without i ts) i)
-unfolding Pairs Any
-not_used_without i [] p = rw (without_nil i) (λ h. h)
-not_used_without i (u ∷ us) p =
-    ⊎_elim (λ c. rw c.1 (not_used_after i u us c.0 p.0))
-    (λ c. rw c.1 (λ h. ⊎_elim c.0 (not_used_without i us p.1) h)) (without_cases i u us)
-
 -- ---- how many blocks
 
 pub count_add : (t : Thing) (ts : List Thing) → block_count (add t ts) ≡ block_count (t ∷ ts)
@@ -135,9 +81,3 @@ unfolding block_count
 count_add t [] = rw (add_nil t)
 count_add t (u ∷ us) =
     ⊎_elim (λ d. rw d.1 (omega (arith, count_add t us))) (λ d. rw d.1) (add_cases t u us)
-
-pub count_without : (i : ℕ) (ts : List Thing) → block_count (without i ts) ≤ block_count ts
-unfolding block_count
-count_without i [] = rw (without_nil i) (omega arith)
-count_without i (u ∷ us) =
-    ⊎_elim (λ d. rw d.1 (omega arith)) (λ d. rw d.1 (omega (arith, count_without i us))) (without_cases i u us)

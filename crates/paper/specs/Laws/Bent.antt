@@ -1,9 +1,9 @@
 -- The shape of drawn runs: none is refused just where each goes along an axis and across the one before.
 -- Assumes nothing.
-use Rattle.std.specs.Prelude.{ℕ, suc, ◌≤◌, Bool, true, false, ◌⊎◌, List, [], ◌∷◌, length}
-use Rattle.std.proofs.Common.{arith, inl, inr, ⊎_elim}
+use Rattle.std.specs.Prelude.{ℕ, suc, Bool, true, false, ◌⊎◌, List, [], ◌∷◌}
+use Rattle.std.proofs.Common.{arith, inl, inr}
 use Rattle.paper.specs.Grid.{Axis, level, upright, Area}
-use Rattle.paper.specs.Layout.{Along, across, Turning}
+use Rattle.paper.specs.Layout.{Along, across}
 use Rattle.paper.specs.Drawn.{Bent, Unturned, shape_checks}
 use Rattle.paper.specs.Laws.Checks.{Coded, Clear}
 use Rattle.paper.specs.Laws.Says.{Says}
@@ -21,16 +21,6 @@ pub not_both : (r : Area) → Along level r → Along upright r → ⊥
 unfolding Along
 not_both r a b = omega arith
 
-turned : (a : Axis) (q r : Area) → Along a q → ¬ (Unturned q r) → ¬ (Bent r) → Along (across a) r
-turned level q r h n b = ⊎_elim (λ k. absurd (n (inl (h, k)))) (λ k. k) (straight_or r b)
-turned upright q r h n b = ⊎_elim (λ k. k) (λ k. absurd (n (inr (h, k)))) (straight_or r b)
-
-pub shape_turning : (a : Axis) (k : ℕ) (q : Area) (rs : List Area) → Along a q → Clear (shape_checks k (q ∷ rs)) → Turning a (q ∷ rs)
-unfolding Clear shape_checks Turning
-shape_turning a k q [] h c = (h, tt)
-shape_turning a k q (r ∷ []) h c = let t = turned a q r h c.1.0 c.1.1.0 in (h, (t, tt))
-shape_turning a k q (r ∷ s ∷ rs) h c = let t = turned a q r h c.1.0 c.1.1.0 in (h, shape_turning (across a) (suc k) r (s ∷ rs) t c.1.1)
-
 pub straight_not_bent : (a : Axis) (r : Area) → Along a r → ¬ (Bent r)
 straight_not_bent level r h b = b.0 h
 straight_not_bent upright r h b = b.1 h
@@ -40,13 +30,6 @@ across_turned level q r h k (inl u) = not_both r u.1 k
 across_turned level q r h k (inr u) = not_both q h u.0
 across_turned upright q r h k (inl u) = not_both q u.0 h
 across_turned upright q r h k (inr u) = not_both r k u.1
-
-pub turning_shape : (a : Axis) (k : ℕ) (rs : List Area) → Turning a rs → Clear (shape_checks k rs)
-unfolding Clear shape_checks Turning
-turning_shape a k [] t = tt
-turning_shape a k (q ∷ []) t = (straight_not_bent a q t.0, tt)
-turning_shape a k (q ∷ r ∷ rs) t =
-    (straight_not_bent a q t.0, (across_turned a q r t.0 t.1.0, turning_shape (across a) (suc k) (r ∷ rs) t.1))
 
 pub shape_coded : (k : ℕ) (rs : List Area) → Coded (shape_checks k rs)
 unfolding Coded shape_checks
@@ -58,9 +41,3 @@ pub first_straight : (k : ℕ) (r : Area) (rs : List Area) → Clear (shape_chec
 unfolding Clear shape_checks
 first_straight k r [] c = c.0
 first_straight k r (q ∷ rs) c = c.0
-
--- runs of a good shape go along the axes by turns
-pub by_turns : (k : ℕ) (rs : List Area) → 1 ≤ length rs → Clear (shape_checks k rs) → (a : Axis) × Turning a rs
-by_turns k [] h c = absurd (omega arith)
-by_turns k (r ∷ rs) h c =
-    ⊎_elim (λ a. (level, shape_turning level k r rs a c)) (λ a. (upright, shape_turning upright k r rs a c)) (straight_or r (first_straight k r rs c))

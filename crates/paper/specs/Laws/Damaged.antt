@@ -7,12 +7,10 @@ use Rattle.paper.specs.declared.Item.{Item}
 use Rattle.paper.specs.declared.Change.{Change}
 use Rattle.paper.specs.declared.Board.{Board}
 use Rattle.paper.specs.Limits.{most_blocks, most_corners, most_kept}
-use Rattle.paper.specs.Grid.{Node, All}
+use Rattle.paper.specs.Grid.{Node}
 use Rattle.paper.specs.Layout.{Thing, wire, Turn, added, taken, no_bounds}
-use Rattle.paper.specs.Padding.{filled, item_of, no_item, change_of, no_change, board_of, WellFormed}
+use Rattle.paper.specs.Padding.{filled, item_of, no_item, change_of, no_change, board_of}
 use Rattle.paper.specs.TableP.{at, keep}
-use Rattle.paper.specs.Laws.Says.{says_not, says_all}
-use Rattle.paper.specs.Laws.Decided.{wellb, well_says}
 
 -- ---- boards
 
@@ -84,10 +82,6 @@ sound_boards =
     ∷ ten (keep 1 0 0 5 5 ∷ keep 2 5 0 8 5 ∷ wire 7 (at 0 5 ∷ at 8 5 ∷ []) ∷ []) []
     ∷ ten (keep 1 0 0 5 5 ∷ wire 7 (at 5 0 ∷ at 5 3 ∷ []) ∷ []) []
     ∷ []
-
-pub well : All WellFormed sound_boards
-unfolding wellb stairs row swaps
-well = (says_all well_says sound_boards).fact tt
 
 -- ---- not well formed
 
@@ -163,7 +157,3 @@ damaged_boards =
     ∷ struct 1 (item_of k1 ∷ []) 1 (record { kind = 3; item = item_of k1 } ∷ [])
     ∷ struct 1 (item_of k1 ∷ []) 1 (record { kind = 4; item = item_of k1 } ∷ [])
     ∷ []
-
-pub damaged : All (λ b. ¬ (WellFormed b)) damaged_boards
-unfolding wellb stairs row swaps
-damaged = (says_all (λ b. says_not (well_says b)) damaged_boards).fact tt

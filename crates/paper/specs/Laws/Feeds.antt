@@ -1,18 +1,13 @@
 -- How a reply is shown to be the right one: the first code that applies, and a refusal.
 -- Assumes nothing.
 use Rattle.std.specs.Prelude.{ℕ, refl, Bool, true, false, cond, List, [], ◌∷◌}
-use Rattle.std.proofs.Common.{subst, inl, inr}
-use Rattle.paper.specs.declared.Question.{Question}
+use Rattle.std.proofs.Common.{inl, inr}
 use Rattle.paper.specs.declared.Board.{Board}
 use Rattle.paper.specs.declared.Reply.{Reply}
 use Rattle.paper.specs.declared.Verdict.{Verdict}
-use Rattle.paper.specs.Grid.{Dir}
-use Rattle.paper.specs.Wire.{AnsweredIn}
-use Rattle.paper.specs.Layout.{grid_of, Layout}
 use Rattle.paper.specs.Padding.{WellFormed}
-use Rattle.paper.specs.Answer.{plain, Check, ◌if◌, ◌unless◌, Gives, source, target, TheWire, flat, Fed}
-use Rattle.paper.specs.Laws.Least.{one_in}
-use Rattle.paper.specs.Laws.Says.{Says, says_as}
+use Rattle.paper.specs.Answer.{plain, Check, ◌if◌, ◌unless◌, Gives, flat, Fed}
+use Rattle.paper.specs.Laws.Says.{Says}
 
 -- ---- the first code that applies, by a test of each condition
 
@@ -29,12 +24,6 @@ pub gives_unless : {P : Type 0} {b : Bool} (n : ℕ) (v : Verdict) (cs : List Ch
 unfolding Gives
 gives_unless {b = true} n k cs p rest = inr (p.fact tt, rest (p.fact tt))
 gives_unless {b = false} n k cs p rest = inl (p.test, refl)
-
--- what a test says of the one answered wire
-pub the_wire_says : (l : Layout) (q : Question) (P : List Dir → Type 0) (v : List Dir) {b : Bool}
-    → AnsweredIn q.mode (grid_of l.size l.items) (source q.pins) (target q.pins) v → Says b (P v) → Says b (TheWire l q P)
-the_wire_says l q P v a =
-    says_as (λ h. (v, a, h)) (λ t. subst P (one_in q.mode (grid_of l.size l.items) (source q.pins) (target q.pins) t.0 v t.1 a) t.2)
 
 -- ---- a refusal
 

@@ -1,7 +1,7 @@
 -- Lists by their members, and lists that an array holds from its start: read, one more, one put in, one taken out.
 -- Assumes nothing.
 use Rattle.std.specs.Prelude.{ℕ, zero, suc, ◌+◌, ◌-◌, ◌≤◌, ◌<◌, ◌≡◌, refl, length, get_or, set, take, drop, replicate}
-use Rattle.std.proofs.Common.{arith, sym, ap, ap₂, ◌∙◌, length-append, length-drop, take-append-drop, length-take-le, take_at, drop_at}
+use Rattle.std.proofs.Common.{arith, sym, ap, ◌∙◌, length-append, length-drop, take-append-drop, length-take-le, take_at, drop_at}
 use mathlib.Core.List.{List, [], ◌∷◌, ◌++◌, map, map-append, append_assoc, tail-eq_of_cons-eq}
 use Rattle.std.proofs.lemmas.List.{length-map, set_at, take-append-le, drop-append-le, set_split}
 use Rattle.std.proofs.Math.ListN.{get_or-map, get_or-append}

@@ -4,8 +4,7 @@ use Rattle.std.specs.Prelude.{◌<◌, min, max, ◌≡◌, Bool, true, false, �
 use Rattle.std.proofs.Common.{arith}
 use Rattle.std.proofs.Math.Logic.{inl, inr, ⊎_elim}
 use mathlib.Core.List.{List, [], ◌∷◌, ◌++◌}
-use Rattle.paper.specs.Grid.{Span, Block, widened, Any, All}
-use Rattle.paper.specs.Layout.{rectangle}
+use Rattle.paper.specs.Grid.{Span, Block, Any, All}
 use Rattle.paper.specs.Laws.Lists.{all_join, any_imp, any_left, any_right, any_split}
 use Rattle.paper.specs.Laws.Traced.{HasPoint, OpenBox}
 use Rattle.paper.specs.Laws.Says.{Says, says_and, says_eq, says_le}

@@ -11,7 +11,7 @@ use Rattle.paper.specs.declared.Mode.{Mode}
 use Rattle.paper.specs.declared.Mode.TheVariants.{Plain, Fewest}
 use Rattle.paper.specs.Grid.{Node, Dir, E, N, W, S, rank, step, Grid, Free}
 use Rattle.paper.specs.Laws.Steps.{Least}
-use Rattle.paper.specs.Wire.{Legal, First, Answered, runs_of, Straightest, AnsweredIn}
+use Rattle.paper.specs.Wire.{Legal, First, Answered, AnsweredIn}
 
 -- ---- one answer
 
@@ -30,17 +30,7 @@ one_answer G s t w v p q =
     let same : length v ≡ length w = le_antisymm (q.shortest w p.legal) (p.shortest v q.legal) in
     first_antisym w v (p.first v q.legal same) (q.first w p.legal (sym same))
 
-one_straightest : (G : Grid) (s t : Node) (w v : List Dir) → Straightest G s t w → Straightest G s t v → w ≡ v
-one_straightest G s t w v p q =
-    let same : length v ≡ length w = le_antisymm (q.shortest w p.legal) (p.shortest v q.legal) in
-    let few : runs_of s v ≡ runs_of s w = le_antisymm (q.straightest w p.legal (sym same)) (p.straightest v q.legal same) in
-    first_antisym w v (p.first v q.legal same few) (q.first w p.legal (sym same) (sym few))
-
 -- in either mode one wire is answered, which is legal, and as short as in the other
-
-pub one_in : (m : Mode) (G : Grid) (s t : Node) (w v : List Dir) → AnsweredIn m G s t w → AnsweredIn m G s t v → w ≡ v
-one_in Plain = one_answer
-one_in Fewest = one_straightest
 
 pub in_least : (m : Mode) (G : Grid) (s t : Node) (w : List Dir) → AnsweredIn m G s t w → Least G s t w
 in_least Plain G s t w a = (a.legal, a.shortest)

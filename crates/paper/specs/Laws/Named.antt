@@ -6,14 +6,13 @@ use Rattle.std.proofs.Math.Nat.{add-zero}
 use Rattle.std.proofs.Math.Path.{subst}
 use Rattle.std.proofs.Math.Logic.{inl, inr, ⊎_elim}
 use mathlib.Core.List.{List, [], ◌∷◌, ◌++◌, head-eq_of_cons-eq}
-use Rattle.paper.specs.declared.Judged.{Judged}
 use Rattle.paper.specs.declared.Verdict.{Verdict}
 use Rattle.paper.specs.Grid.{Node, Area}
 use Rattle.paper.specs.Wire.{between, runs}
 use Rattle.paper.specs.Layout.{OnBoard, Layout}
 use Rattle.paper.specs.Answer.{placed, plain, Gives}
-use Rattle.paper.specs.Drawn.{drawn, Bent, Unturned, InKeepOut, NearWire, shape_checks, run_check, run_checks, drawn_checks, judgement, JudgedOn}
-use Rattle.paper.specs.Laws.Checks.{Clear, gives_either}
+use Rattle.paper.specs.Drawn.{Bent, Unturned, InKeepOut, NearWire, shape_checks, run_check, run_checks}
+use Rattle.paper.specs.Laws.Checks.{Clear}
 
 -- ---- a bad shape
 
@@ -141,16 +140,3 @@ pub data Named (l : Layout) (ps : List Node) (v : Verdict) : Type 0 where
   none : (v ≡ plain 0) ⊎ (v ≡ plain 2) ⊎ (v ≡ plain 22) ⊎ (v ≡ plain 10) → Named l ps v
   shape : FirstBent 1 (runs ps) v → Named l ps v
   place : Clear (shape_checks 1 (runs ps)) → FirstBad l 1 ps v → Named l ps v
-
-pub run_named : (l : Layout) (ns : List ℕ) (r : Judged) → JudgedOn l ns r → Named l (drawn ns) (judgement r)
-unfolding Gives
-run_named l ns r j = go (judgement r) j.said
-  where
-    go : (v : Verdict) → Gives (drawn_checks l ns) v → Named l (drawn ns) v
-    go v (inl g) = none (inr (inl g.1))
-    go v (inr (a, inl g)) = none (inr (inr (inl g.1)))
-    go v (inr (a, inr (b, inl g))) = none (inr (inr (inr g.1)))
-    go v (inr (a, inr (b, inr (c, g)))) =
-        ⊎_elim (λ s. ⊎_elim shape (λ z. none (inl z)) (first_bent 1 (runs (drawn ns)) v s))
-        (λ s. ⊎_elim (place s.0) (λ z. none (inl z)) (first_bad l 1 (drawn ns) v s.1))
-        (gives_either (shape_checks 1 (runs (drawn ns))) (run_checks l 1 (drawn ns)) v g)

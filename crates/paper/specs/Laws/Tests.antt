@@ -1,7 +1,7 @@
 -- A test for each definition of the grid and of well-formed layouts, and that it says what the definition says.
 -- The line `unfolding` of a test names what it computes with: to unfold the test is to unfold all of that.
 -- Assumes nothing.
-use Rattle.std.specs.Prelude.{ℕ, ◌+◌, ◌≤◌, ◌≡◌, refl, Bool, true, false, ◌&&◌, ◌||◌, length, eqb}
+use Rattle.std.specs.Prelude.{ℕ, ◌+◌, ◌≡◌, Bool, true, false, ◌&&◌, ◌||◌, length, eqb}
 use Rattle.std.proofs.Common.{arith, ap}
 use Rattle.std.proofs.Math.Bool.{not}
 use mathlib.Core.List.{List, [], ◌∷◌}
@@ -9,13 +9,12 @@ use Rattle.std.proofs.Math.Dec.{leb, ltb}
 use Rattle.paper.specs.declared.Size.{Size}
 use Rattle.paper.specs.declared.Rect.{Rect}
 use Rattle.paper.specs.Limits.{most_side, most_clearance, most_blocks, most_runs, most_kept}
-use Rattle.paper.specs.Grid.{Node, Dir, E, N, W, S, step, Axis, level, upright, Edge, Free, All, Area, Span, Meets, Block, Hits, Blocked, edge, grid_with}
-use Rattle.paper.specs.Wire.{Legal, runs}
-use Rattle.paper.specs.Layout.{Thing, keep_out, wire, id_of, sort_of, areas, blocks_of, block_count, Covers, Covered, Sealed, Seamed, Seamless, add, without, Meet, RectFits, OnBoard, Along, across, Turning, last_of, EndsDiffer, WireFits, ThingFits, ItemsFit, Turn, added, taken, Has, Used, undo, CanUndo, Undoes, Layout, InRange, no_bounds, fresh, Laid, Sound}
-use Rattle.paper.specs.Laws.Lists.{all_imp, all_both}
+use Rattle.paper.specs.Grid.{Node, Dir, E, N, W, S, step, Axis, level, upright, Edge, Area, Span, Meets, Block, Hits, Blocked, edge, grid_with}
+use Rattle.paper.specs.Wire.{runs}
+use Rattle.paper.specs.Layout.{Thing, keep_out, wire, id_of, sort_of, areas, blocks_of, block_count, Covers, Covered, Sealed, add, without, Meet, RectFits, OnBoard, Along, across, Turning, last_of, EndsDiffer, WireFits, ThingFits, Turn, added, taken, Has, Used, undo, CanUndo, Layout, InRange, no_bounds, fresh}
 use Rattle.paper.specs.Laws.Joins.{joins, joined}
-use Rattle.paper.specs.Laws.Seams.{solid, Barred, barred_in, barred_out}
-use Rattle.paper.specs.Laws.Says.{says_then, Says, says_as, says_always, says_never, says_and, says_and₃, says_and₄, says_or, says_not, says_le, says_eq, anyb, says_any, allb, says_all, pairsb, says_pairs, emptyb, says_empty, listb, says_list}
+use Rattle.paper.specs.Laws.Seams.{solid}
+use Rattle.paper.specs.Laws.Says.{Says, says_as, says_always, says_never, says_and, says_and₃, says_and₄, says_or, says_not, says_le, says_eq, anyb, says_any, allb, says_all, pairsb, emptyb, says_empty, listb, says_list}
 
 -- ---- equality
 
@@ -124,22 +123,10 @@ module _ (w h : ℕ) (bs : List Block) where
   freeb p W = ltb 0 p.x && edgeb level (step W p)
   freeb p S = ltb 0 p.y && edgeb upright (step S p)
 
-  pub free_says : (p : Node) (d : Dir) → Says (freeb p d) (Free (grid_with w h bs) p d)
-  unfolding freeb Free
-  free_says p E = edge_says level p
-  free_says p N = edge_says upright p
-  free_says p W = says_and (says_le _ _) (edge_says level (step W p))
-  free_says p S = says_and (says_le _ _) (edge_says upright (step S p))
-
   unfoldable pub legalb : Node → Node → List Dir → Bool
   unfolding nodeb freeb
   legalb s t [] = nodeb s t
   legalb s t (d ∷ v) = freeb s d && legalb (step d s) t v
-
-  pub legal_says : (s t : Node) (v : List Dir) → Says (legalb s t v) (Legal (grid_with w h bs) s t v)
-  unfolding legalb Legal
-  legal_says s t [] = node_says s t
-  legal_says s t (d ∷ v) = says_and (free_says s d) (legal_says (step d s) t v)
 
 -- ---- one item
 
@@ -226,35 +213,11 @@ unfolding blockedb anyb areas runs joins solid
 barredb ts (keep_out i r) = false
 barredb ts (wire i ps) = anyb (blockedb (joined (solid ts))) (areas (wire i ps))
 
-barred_says : (s : Size) (ts : List Thing) (f : All (ThingFits s) ts) (t : Thing) → Says (barredb ts t) (Barred s ts f t)
-unfolding barredb
-barred_says s ts f (keep_out i r) = says_never (λ h. let z : ◌≡◌ {A = ℕ} 0 1 = cc in omega arith)
-barred_says s ts f (wire i ps) = says_as (λ h. (refl, h)) (λ h. h.1) (says_any (blocked_says (joined (solid ts))) (areas (wire i ps)))
-
 unfoldable pub items_fitb : Size → List Thing → Bool
 unfolding pairsb allb thing_fitsb meetb block_count barredb
 items_fitb s ts =
     pairsb (λ t u. ltb (id_of t) (id_of u)) ts && allb (thing_fitsb s) ts
     && pairsb (λ t u. not (meetb s.clearance t u)) ts && (leb (block_count ts) most_blocks && allb (λ t. not (barredb ts t)) ts)
-
--- of items that each fit
-seamless_says : (s : Size) (ts : List Thing) → All (ThingFits s) ts → Says (allb (λ t. not (barredb ts t)) ts) (Seamless ts)
-seamless_says s ts f =
-    says_as (all_imp _ _ (λ t n k. n (barred_in s ts f t k)) ts)
-    (λ a. all_imp (λ t. ThingFits s t × (¬ (Seamed ts t))) _ (λ t h k. h.1 (barred_out s ts f t h.0 k)) ts (all_both _ _ ts f a))
-    (says_all (λ t. says_not (barred_says s ts f t)) ts)
-
--- how few, and along no seam, in the order of the test
-abbrev Rest : Size → List Thing → Type 0
-Rest s ts = (block_count ts ≤ most_blocks) × Seamless ts
-
-pub items_fit_says : (s : Size) (ts : List Thing) → Says (items_fitb s ts) (ItemsFit s ts)
-unfolding items_fitb
-items_fit_says s ts =
-    says_as (λ h. record { two = record { rising = h.0; each = h.1; apart = h.2; blocks_few = h.3.0 }; seamless = h.3.1 })
-    (λ f. let t = f.two in (t.rising, t.each, t.apart, (t.blocks_few, f.seamless)))
-    (says_then {C = All (ThingFits s) ts} {E = Rest s ts} (says_and₃ (says_pairs (λ t u. says_le _ _) ts) (says_all (thing_fits_says s) ts)
-    (says_pairs (λ t u. says_not (meet_says s.clearance t u)) ts)) (λ each. says_and (says_le _ _) (seamless_says s ts each)))
 
 -- ---- the kept changes
 
@@ -289,11 +252,6 @@ unfolding can_undob items_fitb add without undo
 undoesb s ts [] = true
 undoesb s ts (c ∷ cs) = let us = undo c ts in can_undob c ts && items_fitb s us && undoesb s us cs
 
-pub undoes_says : (s : Size) (ts : List Thing) (cs : List Turn) → Says (undoesb s ts cs) (Undoes s ts cs)
-unfolding undoesb Undoes
-undoes_says s ts [] = says_always tt
-undoes_says s ts (c ∷ cs) = says_and₃ (can_undo_says c ts) (items_fit_says s (undo c ts)) (undoes_says s (undo c ts) cs)
-
 -- ---- the board
 
 unfoldable pub in_rangeb : Size → Bool
@@ -311,12 +269,6 @@ unfolding in_rangeb items_fitb undoesb
 laidb l =
     in_rangeb l.size && items_fitb l.size l.items && leb (length l.kept) most_kept && undoesb l.size l.items l.kept
 
-pub laid_says : (l : Layout) → Says (laidb l) (Laid l)
-unfolding laidb
-laid_says l =
-    says_as (λ h. record { range = h.0; fits = h.1; kept_few = h.2; undoes = h.3 }) (λ f. (f.range, f.fits, f.kept_few, f.undoes))
-    (says_and₄ (in_range_says _) (items_fit_says _ _) (says_le _ _) (undoes_says _ _ _))
-
 unfoldable pub freshb : Layout → Bool
 unfolding sizeb emptyb
 freshb l = sizeb l.size no_bounds && emptyb l.items && emptyb l.kept
@@ -331,7 +283,3 @@ fresh_says l =
 unfoldable pub soundb : Layout → Bool
 unfolding freshb laidb
 soundb l = freshb l || laidb l
-
-pub sound_says : (l : Layout) → Says (soundb l) (Sound l)
-unfolding soundb Sound
-sound_says l = says_or (fresh_says l) (laid_says l)

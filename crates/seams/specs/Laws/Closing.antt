@@ -18,7 +18,8 @@ use Rattle.paper.specs.Laws.Standing.{no_thing, thing_at}
 use Rattle.paper.specs.Laws.Joins.{join_of}
 use Rattle.paper.specs.Laws.Seams.{solid}
 use Rattle.paper.specs.Laws.Joining.{join_imp}
-use Rattle.paper.specs.Laws.Closing.{box, hits_flip, Barring, Crossed, Bars, Hampers, seamless_in, seamless_out}
+use Rattle.paper.specs.Laws.Closing.{box, hits_flip, Barring, Crossed, Bars, Hampers}
+use Rattle.paper.proofs.Closing.{seamless_in, seamless_out}
 use Rattle.blocks.specs.declared.Blocks.{Blocks}
 use Rattle.blocks.specs.declared.Place.{Place}
 use Rattle.blocks.specs.declared.Look.TheVariants.{Wires}

@@ -16,7 +16,8 @@ use Rattle.paper.specs.Laws.Apart.{blocked_right}
 use Rattle.paper.specs.Laws.Lists.{any_split}
 use Rattle.paper.specs.Laws.Standing.{no_thing, thing_at}
 use Rattle.paper.specs.Laws.Joins.{join_of, joins}
-use Rattle.paper.specs.Laws.Seams.{solid, seam_in, seam_out}
+use Rattle.paper.specs.Laws.Seams.{solid}
+use Rattle.paper.proofs.Seams.{seam_in, seam_out}
 use Rattle.paper.specs.Laws.Closing.{box, Barring, Bars, joins_at, at_joins}
 use Rattle.blocks.specs.declared.Blocks.{Blocks}
 use Rattle.blocks.specs.declared.Place.{Place}

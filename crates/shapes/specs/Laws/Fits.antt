@@ -14,7 +14,8 @@ use Rattle.paper.specs.Answer.{plain, Gives}
 use Rattle.paper.specs.Drawn.{form_checks}
 use Rattle.paper.specs.Laws.Says.{Says, says_as, says_eq}
 use Rattle.paper.specs.Laws.Checks.{Coded, Clear, clear_of, of_clear, one_verdict}
-use Rattle.paper.specs.Laws.Bent.{by_turns, turning_shape, shape_coded}
+use Rattle.paper.proofs.Bent.{by_turns, turning_shape}
+use Rattle.paper.specs.Laws.Bent.{shape_coded}
 use Rattle.paper.specs.Laws.Traced.{either}
 use Rattle.blocks.specs.Growing.{stretch_at}
 use Rattle.blocks.specs.Laws.Lists.{length_listed}

@@ -8,7 +8,7 @@ use Rattle.paper.specs.declared.Reply.{Reply}
 use Rattle.paper.specs.Grid.{Node}
 use Rattle.paper.specs.Layout.{Layout}
 use Rattle.paper.specs.Answer.{Gives, verdict, checks, flat, written, Tells, Replies, Fed}
-use Rattle.paper.specs.Laws.One.{one_reply}
+use Rattle.paper.proofs.One.{one_reply}
 
 -- how many numbers the reply's corners take
 abbrev pub count : Reply → ℕ

@@ -14,7 +14,8 @@ use Rattle.paper.specs.Layout.{Thing, Layout}
 use Rattle.paper.specs.Padding.{WellFormed}
 use Rattle.paper.specs.Reading.{Reads}
 use Rattle.paper.specs.Answer.{Gives, verdict, checks, Outcome, Does, Replies, Fed}
-use Rattle.paper.specs.Laws.Blamed.{Blames, Blamed, none, pin, pin_told}
+use Rattle.paper.specs.Laws.Blamed.{Blames, Blamed, none, pin}
+use Rattle.paper.proofs.Blamed.{pin_told}
 use Rattle.paper.specs.Laws.Read.{one_record}
 use Rattle.text.specs.Text.{number, byte}
 use Rattle.sheet.specs.Sheet.{space, blame_in}

@@ -10,9 +10,9 @@ use Rattle.paper.specs.Grid.{Any, All, Pairs}
 use Rattle.paper.specs.Layout.{Thing, keep_out, wire, id_of, areas, block_count, Apart, ThingFits, Below, ItemsApart, add, Used}
 use Rattle.paper.specs.Laws.Lists.{all_imp, all_join, all_has, any_right}
 use Rattle.paper.specs.Laws.Among.{add_nil, add_cases, count_add}
-use Rattle.paper.specs.Laws.Apart.{apart_turn}
+use Rattle.paper.proofs.Apart.{apart_turn}
 use Rattle.paper.specs.Laws.Back.{has_add}
-use Rattle.paper.specs.Laws.Next.{apart_add}
+use Rattle.paper.proofs.Next.{apart_add}
 use Rattle.paper.specs.Laws.Says.{Says, says_as}
 use Rattle.soundness.specs.Joining.{Joins}
 

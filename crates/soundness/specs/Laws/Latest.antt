@@ -14,7 +14,7 @@ use Rattle.paper.specs.Padding.{item_of, change_of}
 use Rattle.paper.specs.Laws.Lists.{all_has, any_imp}
 use Rattle.paper.specs.Laws.Back.{thing_of, turn_of, layout_of, ReadsBack, TurnsBack}
 use Rattle.paper.specs.Laws.Filled.{all_at}
-use Rattle.paper.specs.Laws.Next.{apart_without}
+use Rattle.paper.proofs.Next.{apart_without}
 use Rattle.paper.specs.Laws.Says.{Says, says_as, says_never}
 use Rattle.paper.specs.Laws.Standing.{Standing, kept_is, thing_at, no_thing, thing_id, item_at}
 use Rattle.items.specs.Items.{Whole}

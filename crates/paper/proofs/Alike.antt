@@ -14,11 +14,11 @@ use Rattle.paper.specs.Padding.{board_of, WellFormed}
 use Rattle.paper.specs.Reading.{Reads}
 use Rattle.paper.specs.Answer.{Check, Bars, Closes, BarsNode, verdict, source, target, way, checks, add_to, Outcome, quiet, told, Does, Tells, left, Replies, Fed}
 use Rattle.paper.specs.History.{Call, FedAll, SameItems, Alike}
-use Rattle.paper.specs.Laws.Least.{one_in}
+use Rattle.paper.proofs.Least.{one_in}
 use Rattle.paper.specs.Laws.Back.{thing_of, layout_of, held}
 use Rattle.paper.specs.Laws.Read.{one_record}
 use Rattle.paper.specs.Laws.Checks.{one_verdict}
-use Rattle.paper.specs.Laws.Story.{history}
+use Rattle.paper.proofs.Story.{history}
 
 -- ---- replies that tell the same
 

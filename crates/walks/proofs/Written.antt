@@ -8,7 +8,8 @@ use Rattle.paper.specs.Wire.{turns, corners}
 use Rattle.paper.specs.Laws.Traced.{turns_on, turns_at}
 use Rattle.walks.specs.Tracks.{Tracks}
 use Rattle.walks.specs.Crossings.{spot, crossings, far, Sliced}
-use Rattle.walks.specs.Run.{Lane, last, more, lane}
+use Rattle.walks.specs.Run.{Lane, last, more}
+use Rattle.walks.proofs.Run.{lane}
 
 eqb_same : (d : Dir) → eqb (rank d) (rank d) ≡ true
 eqb_same E = refl

@@ -21,14 +21,17 @@ use Rattle.paper.specs.TableP.{Row, layout_in, asking, reply_in, Stands, table_p
 use Rattle.paper.specs.Laws.Lists.{all_imp}
 use Rattle.paper.specs.Laws.Next.{laid}
 use Rattle.paper.specs.Laws.Joins.{joins, joined}
-use Rattle.paper.specs.Laws.Seams.{legal_joined, answered_joined}
+use Rattle.paper.proofs.Seams.{legal_joined, answered_joined}
 use Rattle.paper.specs.Laws.Says.{Says, says_as, says_self, says_always, says_never, says_and, says_and₃, says_and₄, says_not, says_if, says_le, says_eq, says_all, says_any, anyb, listb, says_list}
-use Rattle.paper.specs.Laws.Tests.{nodeb, node_says, blockedb, blocked_says, coversb, covers_says, sealedb, sealed_says, on_boardb, on_board_says, soundb, sound_says}
-use Rattle.paper.specs.Laws.Certificate.{Table, look, routeb, none_by_table, by_table}
+use Rattle.paper.specs.Laws.Tests.{nodeb, node_says, blockedb, blocked_says, coversb, covers_says, sealedb, sealed_says, on_boardb, on_board_says, soundb}
+use Rattle.paper.proofs.Tests.{sound_says}
+use Rattle.paper.specs.Laws.Certificate.{Table, look, routeb}
+use Rattle.paper.proofs.Certificate.{none_by_table, by_table}
 use Rattle.paper.specs.Laws.Distances.{distances, steps}
 use Rattle.paper.specs.Laws.One.{sound_rising}
 use Rattle.paper.specs.Laws.Smallest.{namedb, gives_naming}
-use Rattle.paper.specs.Laws.Feeds.{gives_none, gives_if, gives_unless, the_wire_says}
+use Rattle.paper.specs.Laws.Feeds.{gives_none, gives_if, gives_unless}
+use Rattle.paper.proofs.Feeds.{the_wire_says}
 
 abbrev blocks_in : Row → List Block
 blocks_in r = blocks_to r.clearance wires r.items

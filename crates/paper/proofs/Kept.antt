@@ -23,12 +23,16 @@ use Rattle.paper.specs.Laws.Least.{in_least}
 use Rattle.paper.specs.Laws.Read.{read_plain}
 use Rattle.paper.specs.Laws.Lists.{all_imp, all_none, none_all, any_imp}
 use Rattle.paper.specs.Laws.Covering.{seamed_more, seamless_fewer, wire_covers}
-use Rattle.paper.specs.Laws.Apart.{blocked_left, wire_apart, keep_out_apart}
+use Rattle.paper.specs.Laws.Apart.{blocked_left}
+use Rattle.paper.proofs.Apart.{wire_apart, keep_out_apart}
 use Rattle.paper.specs.Laws.Checks.{Spared}
 use Rattle.paper.specs.Laws.Joins.{joins, joined, open_joined}
-use Rattle.paper.specs.Laws.Seams.{least_joined, run_in, runs_outside}
-use Rattle.paper.specs.Laws.Next.{Spares, spares, laid, laid_add, laid_take, laid_undo, laid_empty}
-use Rattle.paper.specs.Laws.Traced.{OpenBox, least_turning, open_boxes, least_clear, least_fits}
+use Rattle.paper.proofs.Seams.{least_joined, run_in}
+use Rattle.paper.specs.Laws.Seams.{runs_outside}
+use Rattle.paper.specs.Laws.Next.{Spares, spares, laid, laid_undo, laid_empty}
+use Rattle.paper.proofs.Next.{laid_add, laid_take}
+use Rattle.paper.specs.Laws.Traced.{OpenBox}
+use Rattle.paper.proofs.Traced.{least_turning, open_boxes, least_clear, least_fits}
 
 -- ---- by kind
 

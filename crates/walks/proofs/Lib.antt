@@ -1,0 +1,11 @@
+pub mod Aside
+pub mod Cells
+pub mod Cost
+pub mod Onward
+pub mod Route
+pub mod Rule
+pub mod Run
+pub mod Spread
+pub mod Tables
+pub mod Ways
+pub mod Written
