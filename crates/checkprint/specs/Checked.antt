@@ -76,7 +76,7 @@ told_in (suc code) (suc run) excess = byte space ∷ number (suc run) ∷ []
 abbrev pub told_of : Judged → List Part
 told_of r = told_in r.code r.run r.excess
 
--- The line of the drawn wire with the number n. The run is not 0 with 9, 20, 23 and 24, and with no other code (`line-shown`).
+-- The line of the drawn wire with the number n. The run is not 0 with 9, 20, 23 and 24, and with no other code (`line_shown`).
 abbrev pub line_of : ℕ → Judged → List Part
 line_of n r = number n ∷ byte space ∷ number r.code ∷ told_of r ++ byte line_end ∷ []
 

@@ -15,7 +15,7 @@ use Rattle.beside.specs.Beside.{Agrees, Crowds}
 
 -- ---- the records
 
--- the record after n others, fed to the board b and lent 50 numbers, whichever they are: by `one-text` they do not matter
+-- the record after n others, fed to the board b and lent 50 numbers, whichever they are: by `one_text` they do not matter
 pub record FedNext (file : List ℕ) (n : ℕ) (b : Board) (reply : Reply) : Type 0 where
   pub there : 12 * n < length file
   pub few : n < most_records

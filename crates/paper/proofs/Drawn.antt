@@ -168,7 +168,7 @@ legal_accepted l L s t v legal two few turn r j =
     let x = exceeds (grid_of l.size l.items) s t v r.excess legal (rw (drawn_flat (corners s v)).0 at (j.accepted (ap (λ v. v.code) e))) in
     (e, x.0, x.1, x.2)
 
--- a shortest wire, drawn, exceeds by nothing: so the answered one, in either mode (`in-least`)
+-- a shortest wire, drawn, exceeds by nothing: so the answered one, in either mode (`in_least`)
 pub least_no_excess : (l : Layout) → Laid l → (s t : Node) (v : List Dir) → Least (grid_of l.size l.items) s t v → ¬ (s ≡ t)
     → length (runs (corners s v)) ≤ most_runs → (r : Judged) → JudgedOn l (flat (corners s v)) r → r ≡ record { code = 0; run = 0; excess = 0 }
 least_no_excess l L s t v a two few r j =

@@ -121,7 +121,7 @@ fed_story b b' (c ∷ cs) l k f =
     let q = fed_story c.reply.board b' cs r.0 r.1 f.1 in
     (q.0, q.1, (past r.0, r.2, q.2))
 
--- Whatever is fed to a fresh board, one record after another: the records tell a story (one only, by `one-story`), the board is well
+-- Whatever is fed to a fresh board, one record after another: the records tell a story (one only, by `one_story`), the board is well
 -- formed, and its size and its items are those of the story.
 pub history : (cs : List Call) (b : Board) → FedAll (board_of fresh) cs b
     → (h : Past) × Story start cs h × WellFormed b × ((layout_of b).size ≡ h.size) × ((layout_of b).items ≡ h.now)

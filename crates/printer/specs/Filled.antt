@@ -37,7 +37,7 @@ pub record Fills (file : List ℕ) (from : Place) (buffer after : List ℕ) (r :
   pub full : Over file r.at r.records ⊎ (length buffer < r.waiting + line_room)
 
 -- Steps from the fresh board on have printed every record, and end at this place. Their lines and the last line are then the sheet
--- (`printed-sheet` of crates/sheet).
+-- (`printed_sheet` of crates/sheet).
 abbrev pub AllPrinted : List ℕ → ℕ → Type 0
 AllPrinted file at = (ts : List Stepped) × Printing file 0 0 (board_of fresh) ts at
 

@@ -40,8 +40,8 @@ unfoldable pub blame_in : ℕ → ℕ → List Part
 blame_in zero id = []
 blame_in (suc k) id = byte space ∷ number (suc k) ∷ byte space ∷ number id ∷ []
 
--- The line of the record with the number n. A pin is named exactly with 11 and 18 (paper's `pin-told`). Of the slice the line shows x and y of
--- each corner that the reply counts; an accepted lay or ask has corners, and nothing else has (`corners-told`).
+-- The line of the record with the number n. A pin is named exactly with 11 and 18 (paper's `pin_told`). Of the slice the line shows x and y of
+-- each corner that the reply counts; an accepted lay or ask has corners, and nothing else has (`corners_told`).
 abbrev pub line_in : ℕ → Verdict → ℕ → ℕ → ℕ → List ℕ → List Part
 line_in n said long away corners slice =
     number n ∷ byte space ∷ number said.code ∷ blame_in said.place said.id ++ wire_in long away (take (corners + corners) slice) ++ byte line_end ∷ []
@@ -79,7 +79,7 @@ unfoldable pub lines_from : ℕ → List Call → List Part
 lines_from n [] = []
 lines_from n (c ∷ cs) = line_of n c.reply c.after ++ lines_from (n + 1) cs
 
--- Each record is fed in turn, from the fresh board on, and lent 50 numbers, whichever they are: by `one-sheet` they do not matter.
+-- Each record is fed in turn, from the fresh board on, and lent 50 numbers, whichever they are: by `one_sheet` they do not matter.
 pub record SheetOf (file sheet : List ℕ) : Type 0 where
   pub calls : List Call
   pub last : Board
