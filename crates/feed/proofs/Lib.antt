@@ -1,2 +1,3 @@
 -- What several proofs share
 pub mod Arms
+pub mod ByKind

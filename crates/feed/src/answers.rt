@@ -57,6 +57,7 @@ fn refused(board: Board, w: Wired) -> Reply
 }
 
 // The code that a lay or an ask gets before its pins are looked at.
+#[tactic(auto, unfolding(paper::specs::Answer::Gives, paper::specs::Laws::Back::layout_of))]
 fn lent_code(board: Board, lent: usize) -> u8
     ensures { Gives (lent_checks (layout_of board) lent) (plain result) }
 {

@@ -63,6 +63,7 @@ fn kind_of(bytes: &[u8]) -> u8
 }
 
 // A record fed to a board that is well formed, for callers that keep the board themselves.
+#[tactic(auto, using(crate::proofs::ByKind::case_read, crate::proofs::ByKind::fed_of_no_kind))]
 pub fn feed_sound(board: Board, bytes: &[u8], answer: &mut [u16]) -> Reply
     requires { WellFormed board }
     ensures { Fed board bytes.now answer.old answer.new result × WellFormed result.board }
@@ -80,6 +81,7 @@ pub fn feed_sound(board: Board, bytes: &[u8], answer: &mut [u16]) -> Reply
 }
 
 // A record fed to any board, with any bytes and any slice lent.
+#[tactic(auto, using(paper::specs::Laws::Feeds::fed_ill, paper::specs::Laws::Says::said, paper::specs::Laws::Says::said_not))]
 pub fn feed(board: Board, bytes: &[u8], answer: &mut [u16]) -> Reply
     ensures { Fed board bytes.now answer.old answer.new result }
 {

@@ -14,9 +14,6 @@ returns-then-code-ne0 c =
     subst₂ (λ rec r. Replies (layout_of c.args.board) rec s s r) (sym c.in-Lay.is) (sym c.told.ensures)
     (lay_lent _ c.requires.0 _ s _ _ c.if-code-ne0.true c.lent_code-code.ensures)
 
-pub used-requires : goal.used-requires
-used-requires c = c.requires.0
-
 pub returns-then-used : goal.returns-then-used
 returns-then-used c =
     let s = c.args.answer.now in

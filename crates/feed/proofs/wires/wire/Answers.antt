@@ -36,26 +36,30 @@ pins_stop-stop-requires c =
 
 pub id_at-requires : goal.id_at-requires
 id_at-requires c =
-    omega (arith, (said_item _ _ _ (pins-said _ c.requires.0 _ c.of_board-held.ensures _ _ c.pins_stop-stop.ensures) c.if-stop-ne0.true).1, (well_standing _ c.requires.0).items_few)
+    let p = pins-said _ c.requires.0 _ c.of_board-held.ensures _ _ c.pins_stop-stop.ensures in
+    omega (arith, (said_item _ _ _ p c.if-stop-ne0.true).1, (well_standing _ c.requires.0).items_few)
 
 pub returns-then-stop-ne0 : goal.returns-then-stop-ne0
 returns-then-stop-ne0 c =
-    let g = said_item _ _ _ (pins-said _ c.requires.0 _ c.of_board-held.ensures _ _ c.pins_stop-stop.ensures) c.if-stop-ne0.true in
+    let p = pins-said _ c.requires.0 _ c.of_board-held.ensures _ _ c.pins_stop-stop.ensures in
+    let g = said_item _ _ _ p c.if-stop-ne0.true in
     let e = c.id_at.ensures ∙ id_at _ (well_standing _ c.requires.0) _ _ g.1 in
     subst (Wires (layout_of c.args.board) c.args.q) (sym (c.no_wire.ensures ∙ ap no_wire (c.verdict.ensures ∙ ap (named _ _) e)))
     (refused_start _ _ _ g.0 g.2)
 
 pub returns-then-stop-ne0-2 : goal.returns-then-stop-ne0-2
 returns-then-stop-ne0-2 c =
+    let p = pins-said _ c.requires.0 _ c.of_board-held.ensures _ _ c.pins_stop-stop.ensures in
     let s = c.args in
     subst (Wires (layout_of s.board) s.q) (sym (c.no_wire-then-stop-ne0-2.ensures ∙ ap no_wire c.verdict-then-stop-ne0-2.ensures))
-    (refused_start _ _ _ c.if-stop-ne0-2.true (said_plain _ _ _ (pins-said _ c.requires.0 _ c.of_board-held.ensures _ _ c.pins_stop-stop.ensures) c.if-stop-ne0.false))
+    (refused_start _ _ _ c.if-stop-ne0-2.true (said_plain _ _ _ p c.if-stop-ne0.false))
 
 pub find_wire-found-requires : goal.find_wire-found-requires
 unfolding layout_of
 find_wire-found-requires c =
+    let p = pins-said _ c.requires.0 _ c.of_board-held.ensures _ _ c.pins_stop-stop.ensures in
     wire_asks _ (layout_of c.args.board) _ c.of_board-held.ensures (laid_now _ c.requires.0 (λ z. omega (arith, z, c.requires.1))).range
-    (start_clear _ _ _ c.if-stop-ne0-2.false (said_plain _ _ _ (pins-said _ c.requires.0 _ c.of_board-held.ensures _ _ c.pins_stop-stop.ensures) c.if-stop-ne0.false))
+    (start_clear _ _ _ c.if-stop-ne0-2.false (said_plain _ _ _ p c.if-stop-ne0.false))
 
 pub offset_bounds-held-last : goal.offset_bounds-held-last
 offset_bounds-held-last c = let h = (held_fits c.of_board-held.ensures).items_few in omega (arith, h)
@@ -66,7 +70,8 @@ bounds-held-last c = let h = (held_fits c.of_board-held.ensures).items_few in om
 pub returns : goal.returns
 unfolding layout_of
 returns c =
+    let p = pins-said _ c.requires.0 _ c.of_board-held.ensures _ _ c.pins_stop-stop.ensures in
     subst (Wires (layout_of c.args.board) c.args.q) (sym c.tell.ensures)
     (wires_told _ (layout_of c.args.board) _ _ _ c.of_board-held.ensures (laid_now _ c.requires.0 (λ z. omega (arith, z, c.requires.1))).range
-    (start_clear _ _ _ c.if-stop-ne0-2.false (said_plain _ _ _ (pins-said _ c.requires.0 _ c.of_board-held.ensures _ _ c.pins_stop-stop.ensures) c.if-stop-ne0.false)) c.find_wire-found.ensures
+    (start_clear _ _ _ c.if-stop-ne0-2.false (said_plain _ _ _ p c.if-stop-ne0.false)) c.find_wire-found.ensures
     (count_held c.of_board-held.ensures))
