@@ -1,8 +1,7 @@
 -- `trace::nearer` meets its contract.
+use native.Mathlib.Omega.{arith}
 use Rattle.paper.specs.Laws.Says.{says_as, says_eq}
 use Rattle.trace.proofs.nearer.Goals as goal
 
 pub returns : goal.returns
-returns c =
-    let h = c.if-shut-ne0.false in
-    says_as (λ e. record { free = h; less = e }) (λ n. n.less) (says_eq _ _)
+returns c = says_as (λ e. record { free = omega arith; less = e }) (λ n. n.less) (says_eq _ _)
