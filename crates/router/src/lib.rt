@@ -68,6 +68,7 @@ fn silent(route: Route) -> Routed
 }
 
 // From the table of distances to the answer.
+#[tactic(auto, using(trace::specs::Hops::from_start))]
 fn tell(
     d: &[u32; 9216],
     flat: &[u8; 9216],

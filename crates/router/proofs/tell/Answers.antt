@@ -2,7 +2,7 @@
 use mathlib.Core.Path.{refl, sym, ◌∙◌}
 use Rattle.distances.specs.Ways.{cell, map}
 use Rattle.trace.specs.Trail.{toll}
-use Rattle.router.specs.Telling.{told_none, told_many, told_few}
+use Rattle.router.specs.Telling.{told_none, told_few}
 use native.Mathlib.Omega.{arith}
 use Rattle.router.proofs.tell.Goals as goal
 
@@ -31,12 +31,6 @@ trace-count-requires c =
       ys_long = refl;
     }
 
-pub returns-then-count-gt25 : goal.returns-then-count-gt25
-returns-then-count-gt25 c =
-    let m = map c.args.xs.now c.args.nx c.args.ys.now c.args.ny c.args.flat.now c.args.tall.now in
-    rw c.silent-then-count-gt25.ensures (told_many m c.args.d.now (toll c.args.price c.args.c.now) c.args.left c.args.s c.args.t c.args.p _ _ _ c.trace-count.ensures
-    (λ z. c.if-long-eq1000000000.false (c.left_at-long.ensures ∙ z)) c.if-count-gt25.true _ c.left_at-long.ensures)
-
 pub detour-requires : goal.detour-requires
 detour-requires c =
     let e = c.left_at-long.ensures in
@@ -47,4 +41,4 @@ returns c =
     let m = map c.args.xs.now c.args.nx c.args.ys.now c.args.ny c.args.flat.now c.args.tall.now in
     let e = c.left_at-long.ensures in
     told_few m c.args.d.now (toll c.args.price c.args.c.now) c.args.left c.args.s c.args.t c.args.p _ _ _ c.trace-count.ensures
-    (λ z. c.if-long-eq1000000000.false (c.left_at-long.ensures ∙ z)) c.if-count-gt25.false _ _ (omega (arith, e)) (rw e at c.detour.ensures)
+    (λ z. c.if-long-eq1000000000.false (c.left_at-long.ensures ∙ z)) (omega arith) _ _ (omega (arith, e)) (rw e at c.detour.ensures)
