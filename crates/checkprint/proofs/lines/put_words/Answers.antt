@@ -1,15 +1,12 @@
 -- `checkprint::lines::put_words` meets its contract: the first k numbers stand in the slice.
 use Prim.Native.Nat.{◌/◌, ◌<◌}
 use native.Mathlib.Omega.{arith}
-use mathlib.Core.Path.{◌∙◌, ◌≡◌, refl}
+use mathlib.Core.Path.{◌∙◌, ◌≡◌}
 use lib.ListN.{length-set, length}
 use lib.Seq.{take_all}
 use Rattle.checkprint.specs.Checked.{words_in}
 use Rattle.checkprint.specs.Laws.Words.{length_words, word_more}
 use Rattle.checkprint.proofs.lines.put_words.Goals as goal
-
-pub loop-k-init : goal.loop-k-init
-loop-k-init c = (refl, omega arith, refl, refl)
 
 pub loop-k-preserved : goal.loop-k-preserved
 loop-k-preserved c =

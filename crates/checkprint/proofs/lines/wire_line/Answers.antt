@@ -1,13 +1,9 @@
 -- `checkprint::lines::wire_line` meets its contract: the numbers are judged, and what is said of them is the line.
-use mathlib.Core.Path.{sym, subst}
-use lib.Seq.{length-take-le}
+use mathlib.Core.Path.{subst}
 use Rattle.paper.specs.Drawn.{JudgedOn}
 use Rattle.paper.specs.Laws.Back.{layout_of}
 use Rattle.drawn.specs.Laws.Judging.{judged_well}
 use Rattle.checkprint.proofs.lines.wire_line.Goals as goal
-
-pub slice_bounds-judge_sound-end : goal.slice_bounds-judge_sound-end
-slice_bounds-judge_sound-end c = sym (length-take-le _ _ c.put_words-k.ensures.0)
 
 pub returns : goal.returns
 returns c =

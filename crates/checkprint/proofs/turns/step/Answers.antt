@@ -3,22 +3,14 @@ use Prim.Native.Nat.{ℕ, ◌-◌}
 use native.Mathlib.Omega.{arith}
 use mathlib.Core.List.{List, []}
 use mathlib.Core.Path.{refl, subst}
-use lib.ListN.{length, drop, replicate, length-take, length-drop}
+use lib.ListN.{length, drop, replicate, length-drop}
 use lib.Seq.{take_all}
 use Rattle.paper.specs.Answer.{Fed}
 use Rattle.paper.specs.Drawn.{Judges}
 use Rattle.checkprint.specs.Checked.{words_in, feeds, judges}
 use Rattle.checkprint.specs.Laws.Placed.{nothing_put}
-use Rattle.checkprint.specs.Laws.Pieces.{piece_two, piece_record, piece_wire}
+use Rattle.checkprint.specs.Laws.Pieces.{piece_record, piece_wire}
 use Rattle.checkprint.proofs.turns.step.Goals as goal
-
-pub bounds-piece-0 : goal.bounds-piece-0
-bounds-piece-0 c =
-    omega (arith, piece_two c.args.piece.now c.requires.0)
-
-pub slice_bounds-feed_sound-count : goal.slice_bounds-feed_sound-count
-slice_bounds-feed_sound-count c =
-    omega (arith, piece_two c.args.piece.now c.requires.0)
 
 pub returns-then-piece-eq114 : goal.returns-then-piece-eq114
 returns-then-piece-eq114 c =
@@ -32,20 +24,6 @@ returns-then-piece-eq114 c =
       put = nothing_put c.args.line.now;
       well_formed = c.feed_sound-reply.ensures.1;
     }
-
-pub slice_bounds-wire_line-count : goal.slice_bounds-wire_line-count
-slice_bounds-wire_line-count c =
-    omega (arith, piece_two c.args.piece.now c.requires.0)
-
-pub wire_line-written-requires : goal.wire_line-written-requires
-wire_line-written-requires c =
-    let piece : List ℕ = c.args.piece.now in
-    let w = piece_wire piece c.requires.0 c.if-piece-eq114.false in (
-      c.requires.3,
-      omega (arith, c.requires.1),
-      omega (arith, length-take (length piece - 2) (drop 2 piece), length-drop 2 piece, w.1, c.type_inv.piece 1),
-      c.requires.2,
-    )
 
 pub returns : goal.returns
 returns c =
