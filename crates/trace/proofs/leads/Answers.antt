@@ -23,16 +23,16 @@ both : (s : Start)
 both s = (on_x (here s) _ s.requires.0 s.args.q s.requires.1 s.requires.2, on_y (here s) _ s.requires.0 s.args.q s.requires.1 s.requires.2)
 
 pub along-requires : goal.along-requires
-along-requires c = (both c.before).0
+along-requires c = let h = both c.before in search (h.0, h.1)
 
 pub along-requires-in-1 : goal.along-requires-in-1
-along-requires-in-1 c = (both c.before).1
+along-requires-in-1 c = let h = both c.before in search (h.0, h.1)
 
 pub along-requires-in-2 : goal.along-requires-in-2
-along-requires-in-2 c = (both c.before).0
+along-requires-in-2 c = let h = both c.before in search (h.0, h.1)
 
 pub along-requires-in-3-to-255 : goal.along-requires-in-3-to-255
-along-requires-in-3-to-255 c = (both c.before).1
+along-requires-in-3-to-255 c = let h = both c.before in search (h.0, h.1)
 
 pub returns-in-0 : goal.returns-in-0
 returns-in-0 c =
