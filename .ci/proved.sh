@@ -66,8 +66,8 @@ run_program() {
     way=("$tools/bin/qemu-x86_64" "$tools/lib/ld-linux-x86-64.so.2" --library-path "$tools/lib")
   fi
   told=$scratch/told
-  "${way[@]}" "$(program "$1")" 2>"$told" || ended=$?
-  # Nobody reads the output any more, which is no one's fault.
+  # Where nobody reads the output any more, which is no one's fault, cat is ended by it; the program would complain.
+  "${way[@]}" "$(program "$1")" 2>"$told" | cat || ended=$?
   [ "$ended" -ne 141 ] || exit 141
   [ "$ended" -eq 0 ] || fail 1 "$1 ended with status $ended"
   [ ! -s "$told" ] || { cat "$told" >&2; exit 1; }
