@@ -1,4 +1,5 @@
 -- `beside::crowd_sheet` meets its contract: 17, then 25, then 2, then the lines.
+use borrow.Author.Rules.{rules}
 use mathlib.Core.Path.{◌≡◌}
 use mathlib.Core.Logic.{inl, inr}
 use Rattle.paper.specs.declared.Board.{Board}
@@ -28,7 +29,7 @@ unfolding Crowds layout_of
 returns-then-bare c =
     let b = c.args.board in
     let w = said c.sound.ensures c.if-not-sound.false in
-    let m = said c.agrees-other.ensures c.if-other.false in
+    let m : Agrees b c.args.index = search (rules, said) in
     inr (inr (layout_of b, well_formed b w, agrees_read b _ m, inl (c.if-bare.true, c.silent-then-bare.ensures)))
 
 -- after bounds the index is built
@@ -45,9 +46,9 @@ sheet-requires c =
 pub returns : goal.returns
 unfolding Crowds layout_of
 returns c =
-    let g = c.args in
-    let b = g.board in
+    let b = c.args.board in
     let w = said c.sound.ensures c.if-not-sound.false in
     let m = said c.agrees-other.ensures c.if-other.false in
     let n = c.if-bare.false in
-    inr (inr (layout_of b, well_formed b w, agrees_read b _ m, inr (n, counted_lines (layout_of b) _ _ (has b g.index m n) c.sheet.ensures)))
+    let p = has b c.args.index m n in
+    inr (inr (layout_of b, well_formed b w, agrees_read b _ m, inr (n, counted_lines (layout_of b) _ _ p c.sheet.ensures)))
