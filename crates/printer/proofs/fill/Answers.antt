@@ -21,27 +21,26 @@ step-line-requires c =
       leb-true,
       length-take (length c.loop-at.out - c.loop-at.waiting) (drop c.loop-at.waiting c.loop-at.out),
       length-drop c.loop-at.waiting c.loop-at.out,
-      c.if-out-waiting-ge-LINE_ROOM.true,
     ) in
-    (c.loop-at-test.true, omega (arith, ltb-true, c.if-records-lt65535.true), h, c.loop-at.invariant.1.within.well_formed)
+    (c.loop-at-test.true, omega (arith, ltb-true), h, c.loop-at.invariant.1.within.well_formed)
 
 pub loop-at-smaller : goal.loop-at-smaller
 loop-at-smaller c =
-    omega (arith, ltb-true, c.if-records-lt65535.true)
+    omega (arith, ltb-true)
 
 pub loop-at-preserved : goal.loop-at-preserved
 loop-at-preserved c =
-    let f = fill_more c.loop-at.invariant.1 c.loop-at-test.true (omega (arith, ltb-true, c.if-records-lt65535.true)) c.step-line.ensures in
+    let f = fill_more c.loop-at.invariant.1 c.loop-at-test.true (omega (arith, ltb-true)) c.step-line.ensures in
     (puts_length f.put, f)
 
 pub returns-else-out-waiting-ge-LINE_ROOM : goal.returns-else-out-waiting-ge-LINE_ROOM
 returns-else-out-waiting-ge-LINE_ROOM c =
-    record { filled = c.loop-at.invariant.1; full = inr (omega (arith, leb-false, c.if-out-waiting-ge-LINE_ROOM.false, c.loop-at.invariant.0)) }
+    record { filled = c.loop-at.invariant.1; full = inr (omega (arith, leb-false, c.loop-at.invariant.0)) }
 
 pub returns-else-records-lt65535 : goal.returns-else-records-lt65535
 returns-else-records-lt65535 c =
     let f = c.loop-at.invariant.1 in
-    record { filled = f; full = inl (inr (omega (arith, ltb-false, c.if-records-lt65535.false, f.within.few))) }
+    record { filled = f; full = inl (inr (omega (arith, ltb-false, f.within.few))) }
 
 pub returns-after-loop-at : goal.returns-after-loop-at
 returns-after-loop-at c = record { filled = c.loop-at.invariant.1; full = inl (inl c.loop-at-test.false) }
