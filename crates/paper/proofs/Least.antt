@@ -17,8 +17,7 @@ one_straightest G s t w v p q =
     let few : runs_of s v ≡ runs_of s w = le_antisymm (q.straightest w p.legal (sym same)) (p.straightest v q.legal same) in
     first_antisym w v (p.first v q.legal same few) (q.first w p.legal (sym same) (sym few))
 
--- in either mode one wire is answered, which is legal, and as short as in the other
-
+-- in either mode one wire is answered
 pub one_in : (m : Mode) (G : Grid) (s t : Node) (w v : List Dir) → AnsweredIn m G s t w → AnsweredIn m G s t v → w ≡ v
 one_in Plain = one_answer
 one_in Fewest = one_straightest

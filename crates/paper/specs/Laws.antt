@@ -1,4 +1,4 @@
--- What follows from the definitions: nothing here has to be believed.
+-- What follows from the definitions: nothing here has to be believed. More of it, that rests on what an edit of must-fail/ turns, stands in ../proofs.
 
 -- lists, items, unit steps
 pub mod Lists

@@ -10,7 +10,7 @@ ghost use Rattle.printer.specs.Filled.{Within, Fills, AllPrinted, HoldsLast};
 use input::{large_buffer, read_all};
 use paper::Board;
 use sheet::{LINE_ROOM, put_last, start, step};
-use std::io::{Input, Write, writer};
+use std::io::{Read, Write};
 
 // ---- reading
 
@@ -87,16 +87,14 @@ fn print<W: Write>(sink: &mut W, file: &[u8]) -> bool {
 }
 
 // All records of standard input, printed on standard output. Where a read or a write fails, a line on standard error says so.
-pub fn run(rt: &(impl Input + Print + Eprint)) {
+pub fn run<R: Read, W: Write>(source: &mut R, sink: &mut W, rt: &impl Eprint) {
     let mut room = file_room();
-    let mut source = rt.reader();
-    let input = read_all(&mut source, &mut room);
+    let input = read_all(source, &mut room);
     if input.failed {
         let _ = rt.eprintln("sheet: standard input cannot be read");
         return;
     }
-    let mut sink = writer(rt);
-    if !print(&mut sink, &room[..input.size]) {
+    if !print(sink, &room[..input.size]) {
         let _ = rt.eprintln("sheet: standard output cannot be written");
     }
 }

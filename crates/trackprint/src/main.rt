@@ -2,5 +2,7 @@
 #![tactic(auto)]
 
 fn main(rt: HostRuntime) {
-    printer::run(&rt);
+    let mut source = rt.stdin();
+    let mut sink = rt.stdout();
+    printer::run(&mut source, &mut sink, &rt);
 }

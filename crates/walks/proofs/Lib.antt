@@ -1,3 +1,4 @@
+-- Theorems that rest on definitions which an edit of must-fail/ turns, each beside the file of its name in ../specs.
 pub mod Aside
 pub mod Cells
 pub mod Cost

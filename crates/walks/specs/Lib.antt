@@ -1,7 +1,8 @@
 -- Theorems only: a search over the crossings of tracks answers for the whole grid. They are stated over any rule for open unit edges that obeys
 -- two slab laws (Crossings, `Sliced`), with no bound on coordinates or on the number of blocks.
 --
--- What a program has to show, and what it gets, is in Route (for the paper's own rule), with Search, Onward, Modes and Written; the rest is the proof.
+-- What a program has to show is in Route (for the paper's own rule), Search, Onward and Modes; what it gets is in Modes and, in ../proofs, in Route
+-- and Written; the rest is the proof. Theorems that rest on what an edit of must-fail/ turns stand in ../proofs.
 
 -- one axis, then both
 pub mod Axes

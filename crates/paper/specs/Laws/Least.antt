@@ -30,7 +30,7 @@ one_answer G s t w v p q =
     let same : length v ≡ length w = le_antisymm (q.shortest w p.legal) (p.shortest v q.legal) in
     first_antisym w v (p.first v q.legal same) (q.first w p.legal (sym same))
 
--- in either mode one wire is answered, which is legal, and as short as in the other
+-- in either mode the answered wire is legal, and as short as in the other
 
 pub in_least : (m : Mode) (G : Grid) (s t : Node) (w : List Dir) → AnsweredIn m G s t w → Least G s t w
 in_least Plain G s t w a = (a.legal, a.shortest)
