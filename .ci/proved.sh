@@ -15,32 +15,31 @@ fail() {
 program() { echo "$here/crates/$1/out/$1"; }
 
 # prove NAME: proves and builds a program where that has not been done, and says which of how many crates it is proving.
-# What took no second is not told.
+# What is proved already is not told.
 prove() {
-  local crates number=0 count name next began took
+  local crates number=0 count name next
   crates=$(rests_on "$1" | cut -d: -f1)
-  built "$1" "$crates" && return
+  built "$1" "$crates" && crates=$1
   count=$(wc -l <<<"$crates")
   [ -e "$(program "$1")" ] || tell "proving $count crates; some minutes the first time"
   for name in $crates; do
-    number=$((number + 1)) began=${EPOCHREALTIME/./}
+    number=$((number + 1))
     (cd "$here/crates/$name" && rt "$([ "$name" = "$1" ] && echo run || echo lib)") </dev/null >"$scratch/proving" 2>&1 || {
-      grep '^rt:' "$scratch/proving" >&2 || true
+      grep '^rt: ' "$scratch/proving" | sed "s/^rt: /$me: /" >&2
       fail 1 "the program could not be proved and built; 'rt check' in crates/$name says why"
     }
     next=$(sed -n "$((number + 1))p" <<<"$crates")
-    took=$(((${EPOCHREALTIME/./} - began) / 1000000))
-    [ $took -eq 0 ] || tell "proved $number of $count: $name ($took s)${next:+; now: $next}"
+    ! grep -q '^logic=proved' "$scratch/proving" || tell "proved $number of $count: $name${next:+; now: $next}"
   done
 }
 
-# built NAME CRATES: is the program newer than all that it is made from?
+# built NAME CRATES: is the program newer than all that it is made from? Then one `rt run` sees whether it still is what it was.
 built() {
   local made folders=()
   made=$(program "$1")
   [ -e "$made" ] || return 1
   for name in $2; do folders+=("$here/crates/$name"); done
-  [ -z "$(find "$here/crates.txt" "${folders[@]}" -name out -prune -o -type f -newer "$made" -print -quit)" ]
+  [ -z "$(find "$here/crates.txt" "${folders[@]}" -name out -prune -o -newer "$made" -print -quit)" ]
 }
 
 # rests_on NAME: a crate and those it rests on, a line for each: NAME: those it rests on
@@ -58,18 +57,19 @@ rests_on() {
 }
 
 # run_program NAME: the proved program, from standard input to standard output. It is for x86-64; elsewhere it runs under
-# the kit's emulator. A Rattle program cannot set its exit status, so its words on standard error do.
+# an emulator. It ends with status 0 whatever happens, so its words on standard error tell. Where nobody reads the output any
+# more, which is no one's fault, cat is ended by that; the program would complain.
 run_program() {
-  local way=() tools told ended=0
+  local way=() tools told ended=()
   if [ "$(uname -m)" != x86_64 ]; then
     tools=$(dirname "$(rt doc)")/toolchain
     way=("$tools/bin/qemu-x86_64" "$tools/lib/ld-linux-x86-64.so.2" --library-path "$tools/lib")
   fi
   told=$scratch/told
-  # Where nobody reads the output any more, which is no one's fault, cat is ended by it; the program would complain.
-  "${way[@]}" "$(program "$1")" 2>"$told" | cat || ended=$?
-  [ "$ended" -ne 141 ] || exit 141
-  [ "$ended" -eq 0 ] || fail 1 "$1 ended with status $ended"
+  { "${way[@]}" "$(program "$1")" 2>"$told" | cat 2>/dev/null; ended=("${PIPESTATUS[@]}"); } || true
+  [ "${ended[1]}" -ne 141 ] || exit 141
+  [ "${ended[0]}" -eq 0 ] || fail 1 "$1 ended with status ${ended[0]}"
+  [ "${ended[1]}" -eq 0 ] || fail 1 "standard output cannot be written"
   [ ! -s "$told" ] || { cat "$told" >&2; exit 1; }
 }
 

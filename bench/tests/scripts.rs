@@ -65,11 +65,11 @@ impl Copy {
     }
 }
 
-/// Takes a second for one crate, and none for what is proved already.
-const RT: &str = "case $PWD in */records) sleep 1 ;; esac";
+/// Says what `rt lib` says of a crate that it proves, and nothing of what is proved already.
+const RT: &str = "case $PWD in */records) echo 'logic=proved functions=12' ;; esac";
 const CRATES: &str = "# NAME: the crates it rests on\npaper:\nrecords: paper\nwalks: paper\n\
                       feed: paper records\nsheet: feed\ntrackprint: sheet io\nask: walks io\n";
-const PROVED: &str = ": proved 2 of 5: records (1 s); now: feed\n";
+const PROVED: &str = ": proved 2 of 5: records; now: feed\n";
 
 fn text(bytes: &[u8]) -> &str {
     std::str::from_utf8(bytes).expect("text")
@@ -181,7 +181,7 @@ fn what_cannot_be_proved_is_told() {
     let output = copy.run("../sheet");
     assert_eq!(output.status.code(), Some(1));
     let told = text(&output.stderr);
-    assert!(told.contains("rt: paper NOT PROVED (exit 1, 3 s)\n"), "{told}");
+    assert!(told.contains("sheet: paper NOT PROVED (exit 1, 3 s)\n"), "{told}");
     assert!(
         told.contains("could not be proved and built; 'rt check' in crates/paper says why\n"),
         "{told}"

@@ -1,4 +1,4 @@
-// The kinds that tell no wire: bounds, keep_out, take out, undo.
+// The kinds that tell no wire: bounds, keep-out, take out, undo.
 ghost use Rattle.std.specs.Prelude.{◌≡◌};
 ghost use Rattle.paper.specs.Layout.{keep_out};
 ghost use Rattle.paper.specs.Padding.{item_of, WellFormed};
@@ -29,7 +29,7 @@ pub(crate) fn bounds(board: Board, read: Record) -> Reply
     }
 }
 
-// The code that a keep_out gets.
+// The code that a keep-out gets.
 fn keep_out_code(board: Board, id: Id, rect: Rect) -> u8
     requires { WellFormed board }
     ensures { KeepOutCode (layout_of board) id rect result }

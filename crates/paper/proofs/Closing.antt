@@ -1,4 +1,4 @@
--- Which keep_out closes a seam over a laid wire, and when every wire is off the seams: by the rectangles of two keep-outs.
+-- Which keep-out closes a seam over a laid wire, and when every wire is off the seams: by the rectangles of two keep-outs.
 -- The definitions and lemmas under it stand in specs/Laws/Closing.
 use Prim.Native.Nat.{ℕ, ◌<◌}
 use native.Mathlib.Omega.{arith}
@@ -97,7 +97,7 @@ module _ (z : Size) (ts : List Thing) (f : All (ThingFits z) ts) (i : ℕ) (r : 
         (any_with _ _ _ (λ u g k. (g, k)) ts (all_both _ _ ts f n) h)),
   )
 
--- ---- wires go through no keep_out
+-- ---- wires go through no keep-out
 
 abbrev Clear : ℕ → Thing → Thing → Type 0
 Clear c u t = (sort_of t ≡ sort_of u) ⊎ Apart c t u

@@ -23,7 +23,7 @@ pub seamless_without : (i : ℕ) (ts : List Thing) → Seamless ts → Seamless 
 unfolding Covered
 seamless_without i ts a = seamless_fewer (without i ts) ts (λ q. any_without (λ u. Covers u q) i ts) (without i ts) (all_without (λ u. ¬ (Seamed ts u)) i ts a)
 
--- a node inside a keep_out is all round covered, by that one
+-- a node inside a keep-out is all round covered, by that one
 module _ (l : Layout) (p : Node) where
   round_held : (t : Thing) → Bars l wires keep_outs (node p) t → All (Covers t) (round p)
   unfolding Bars blocks_of areas Blocked Any Hits Meets Covers All step

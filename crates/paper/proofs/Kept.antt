@@ -78,7 +78,7 @@ wire_seamless l i ps L a = (
     own s = unfold Seamed areas in all_none (Blocked (joined (blocks_in l))) (runs ps) a
         (any_imp (InSeam l.items) _ (λ r h. run_in l.size.clearance l.items L.range.2.0 level r h) (runs ps) s.1)
 
--- a keep_out that closes no seam over a wire
+-- a keep-out that closes no seam over a wire
 keep_out_seamless : (l : Layout) (i : ℕ) (r : Rect) → ¬ (Closes l (keep_out i r)) → Seamless (keep_out i r ∷ l.items)
 unfolding All Closes Seamed
 keep_out_seamless l i r n = (λ s. other s.0, none_all (Seamed (keep_out i r ∷ l.items)) l.items n)

@@ -173,7 +173,7 @@ there = record { x = 3; y = 3 }
 abbrev shut : List Block
 shut = joined (blocks_to 1 wires block)
 
--- 3 × 3, clearance 1, a keep_out (1,0)-(2,2), from (0,1) to (3,3): 0:1 1:1 1:2 3:2 3:3 is answered by kind 4, 0:1 0:3 3:3 by kind 8
+-- 3 × 3, clearance 1, a keep-out (1,0)-(2,2), from (0,1) to (3,3): 0:1 1:1 1:2 3:2 3:3 is answered by kind 4, 0:1 0:3 3:3 by kind 8
 pub modes_differ : Answered (grid_of small block) here there (E ∷ N ∷ E ∷ E ∷ N ∷ []) × Straightest (grid_of small block) here there (N ∷ N ∷ E ∷ E ∷ E ∷ [])
 unfolding walksb legalb firstb straightb corners turns runs manhattan gap blocks_to blocks_of areas joins
 modes_differ = (

@@ -73,11 +73,11 @@ Bars l to of a t = (sort_of t ≡ of) × Blocked (blocks_of l.size.clearance to 
 abbrev pub Enters : Layout → Rect → Sort → Type 0
 Enters l r of = Any (Bars l keep_outs of (rectangle r)) l.items
 
--- with the keep_out among the items a laid wire would go along a closed seam
+-- with the keep-out among the items a laid wire would go along a closed seam
 unfoldable pub Closes : Layout → Thing → Type 0
 Closes l t = Any (Seamed (t ∷ l.items)) l.items
 
--- the item blocks the node: a keep_out that holds one of the four cells round it, where each of them lies in one; a wire nearer than the clearance
+-- the item blocks the node: a keep-out that holds one of the four cells round it, where each of them lies in one; a wire nearer than the clearance
 unfoldable pub BarsNode : Layout → Sort → Node → Thing → Type 0
 BarsNode l keep_outs p t = Sealed l.items (round p) × Any (Covers t) (round p)
 BarsNode l wires p t = Bars l wires wires (node p) t

@@ -31,7 +31,7 @@ Far k c p q = FarOn (k * c) p.x q.x ⊎ FarOn (k * c) p.y q.y
 abbrev pub OnWire : ℕ → Node → List Node → Type 0
 OnWire k p ps = Any (On k p) (runs ps)
 
--- the point enters no keep_out, and is at least c from every point of a laid wire
+-- the point enters no keep-out, and is at least c from every point of a laid wire
 unfoldable pub Shuns : ℕ → ℕ → Node → Thing → Type 0
 Shuns k c p (keep_out i r) = ¬ (In k p (rectangle r))
 Shuns k c p (wire i qs) = (q : Node) → OnWire k q qs → Far k c p q
@@ -40,7 +40,7 @@ Shuns k c p (wire i qs) = (q : Node) → OnWire k q qs → Far k c p q
 abbrev pub Round : ℕ → Node → Node → Type 0
 Round k p n = ((p.x ≤ k * n.x) × (k * n.x ≤ p.x + k)) × ((p.y ≤ k * n.y) × (k * n.y ≤ p.y + k))
 
--- every cell round the point lies in a keep_out: it is inside them, taken together
+-- every cell round the point lies in a keep-out: it is inside them, taken together
 abbrev pub Inside : ℕ → Node → List Thing → Type 0
 Inside k p ts = (n : Node) → Round k p n → Covered ts n
 

@@ -56,7 +56,7 @@ block_count (t ∷ ts) = length (areas t) + block_count ts
 
 -- ---- seams between keep-outs
 
--- the unit cell that has q for its high corner lies in the keep_out
+-- the unit cell that has q for its high corner lies in the keep-out
 unfoldable pub Covers : Thing → Node → Type 0
 Covers (keep_out i r) q = ((r.x0 < q.x) × (q.x ≤ r.x1)) × ((r.y0 < q.y) × (q.y ≤ r.y1))
 Covers (wire i ps) q = ⊥
@@ -99,7 +99,7 @@ Seamless ts = All (λ t. ¬ (Seamed ts t)) ts
 unfoldable pub Meet : ℕ → Thing → Thing → Type 0
 Meet c t u = Any (Blocked (blocks_of c (sort_of u) t)) (areas u)
 
--- keep-outs don't overlap, wires go through no keep_out, two wires are at least c apart in x or in y
+-- keep-outs don't overlap, wires go through no keep-out, two wires are at least c apart in x or in y
 abbrev pub Apart : ℕ → Thing → Thing → Type 0
 Apart c t u = ¬ (Meet c t u)
 

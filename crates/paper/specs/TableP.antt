@@ -48,7 +48,7 @@ from sx sy tx ty = record { sx = sx; sy = sy; tx = tx; ty = ty }
 abbrev pub keep : ℕ → ℕ → ℕ → ℕ → ℕ → Thing
 keep i x0 y0 x1 y1 = keep_out i (record { x0 = x0; y0 = y0; x1 = x1; y1 = y1 })
 
--- P3's keep_out, and P6's wire
+-- P3's keep-out, and P6's wire
 abbrev pub k3 : List Thing
 k3 = keep 1 3 2 6 8 ∷ []
 

@@ -70,7 +70,7 @@ run_at (p ∷ []) k h = absurd (omega arith)
 run_at (p ∷ q ∷ ps) zero h = refl
 run_at (p ∷ q ∷ ps) (suc k) h = run_at (q ∷ ps) k (omega arith)
 
--- a keep_out's two corners are its low and its high one
+-- a keep-out's two corners are its low and its high one
 rect_stretch : (i : ℕ) (r : Rect) (s : Size) → RectFits s r → stretch_at (item_of (keep_out i r)) 0 ≡ rectangle r
 unfolding item_of
 rect_stretch i r s f = λ j. record {

@@ -50,7 +50,7 @@ drawn b w = let h = well_formed b w in subst (λ b'. Drawn b' (layout_of b).item
 
 -- ---- the item at place i
 
--- a keep_out is one block, a wire one for each run
+-- a keep-out is one block, a wire one for each run
 blocks_are : (s : Size) (t : Thing) → ThingFits s t → (length (areas t) ≡ max 1 (item_of t).runs) × ((item_of t).runs ≤ most_runs)
 unfolding ThingFits areas
 blocks_are s (keep_out i r) f = unfold item_of in (refl, omega arith)
@@ -85,7 +85,7 @@ pub held_all : (b : Board) (ts : List Thing) (c i : ℕ) (out : Blocks) → Draw
     → Held out c wires ts
 held_all b ts c i out d h e = record { items_few = d.items_few; blocks_few = d.blocks_few; same = e ∙ ap (flat_of c wires) (take_all i ts h) }
 
--- ---- the blocks to a keep_out
+-- ---- the blocks to a keep-out
 
 -- they are those to a wire where wires keep no distance
 blocks_near : (c : ℕ) (ts : List Thing) → blocks_to c keep_outs ts ≡ blocks_to 0 wires ts

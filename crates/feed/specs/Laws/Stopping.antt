@@ -1,4 +1,4 @@
--- What stands in a keep_out's way: 7 and 8.
+-- What stands in a keep-out's way: 7 and 8.
 -- Assumes nothing.
 use Rattle.std.specs.Prelude.{ℕ, ◌≡◌, refl, Bool, ◌↔◌, ◌⊎◌, ◌∷◌, take}
 use native.Mathlib.Omega.{arith}

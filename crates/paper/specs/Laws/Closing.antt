@@ -1,4 +1,4 @@
--- Which keep_out closes a seam over a laid wire, and when every wire is off the seams: by the rectangles of two keep-outs.
+-- Which keep-out closes a seam over a laid wire, and when every wire is off the seams: by the rectangles of two keep-outs.
 -- Assumes nothing.
 use Prim.Native.Nat.{ℕ, zero, suc, ◌<◌}
 use native.Mathlib.Omega.{arith}
@@ -38,12 +38,12 @@ all_any P Q f (x ∷ xs) a (inr h) = all_any P Q f xs a.1 h
 
 -- ---- items that stand together
 
--- u, a keep_out, and one of the blocks
+-- u, a keep-out, and one of the blocks
 unfoldable pub Bars : Thing → List Block → Area → Type 0
 Bars (keep_out i q) bs r = Barring (box q) bs r
 Bars (wire i ps) bs r = ⊥
 
--- k and u, a keep_out
+-- k and u, a keep-out
 unfoldable One : Block → Thing → Area → Type 0
 One k (keep_out i q) r = Blocked (join_of k (box q)) r
 One k (wire i ps) r = ⊥
@@ -85,7 +85,7 @@ module _ (r : Area) where
   at_with k (wire j ps ∷ ts) zero l h = absurd h
   at_with k (wire j ps ∷ ts) (suc i) l h = at_with k ts i (omega arith) h
 
-  -- a rectangle of two is one of some keep_out and one before it
+  -- a rectangle of two is one of some keep-out and one before it
   pub joins_at : (ts : List Thing) → Blocked (joins (solid ts)) r → (i : ℕ) × (i < length ts) × Bars (thing_at ts i) (solid (take i ts)) r
   unfolding Blocked joins solid Any
   joins_at [] h = absurd h
@@ -107,9 +107,9 @@ module _ (r : Area) where
       (bars_cons (box q) (thing_at ts i) (solid (take i ts)) h)
   at_joins (wire j ps ∷ ts) (suc i) l h = at_joins ts i (omega arith) h
 
--- ---- wires go through no keep_out
+-- ---- wires go through no keep-out
 
 module _ (z : Size) (ts : List Thing) (f : All (ThingFits z) ts) where
-  -- a rectangle of the keep_out at i and one before it goes across a wire
+  -- a rectangle of the keep-out at i and one before it goes across a wire
   abbrev pub Hampers : ℕ → Type 0
   Hampers i = Any (λ u. (sort_of u ≡ wires) × Any (Bars (thing_at ts i) (solid (take i ts))) (areas u)) ts

@@ -41,7 +41,7 @@ unfolding listed
 head_of f k zero x e = absurd (cons-ne-nil x [] (sym e))
 head_of f k (suc n) x e = (head-eq_of_cons-eq e, omega arith)
 
--- the keep_out at the place
+-- the keep-out at the place
 pub record KeptIs (ts : List Thing) (i : ℕ) (k : Block) : Type 0 where
   pub id : ℕ
   pub rect : Rect
@@ -90,7 +90,7 @@ unfolding Crossed Barring
 crossed_in k bs us h =
     any_imp (λ u. Any (λ b. WireOn (join_of b k) u) bs) _ (λ u p. (own_sort_of k u bs p, own_runs k u bs p)) us (any_flip (λ b u. WireOn (join_of b k) u) bs us h)
 
--- a keep_out is one block, which is not widened
+-- a keep-out is one block, which is not widened
 pub kept_blocks : (c : ℕ) (to : Sort) (i : ℕ) (r : Rect) → blocks_of c to (keep_out i r) ≡ box r ∷ []
 unfolding blocks_of areas
 kept_blocks c keep_outs i r = refl
@@ -134,7 +134,7 @@ module _ {b : Blocks} {c : ℕ} {to : Sort} {ts : List Thing} (held : Held b c t
         (block_is i k.id k.rect l k.thing).1;
   }
 
--- ---- the wires that the arrays hold, to a keep_out
+-- ---- the wires that the arrays hold, to a keep-out
 
 wire_on : (c : ℕ) (s : Area) (u : Thing) → Blocked (blocks_of c keep_outs u) s → Any (Hits (widened 0 s)) (areas u)
 unfolding Blocked blocks_of

@@ -56,7 +56,7 @@ module _ {b : Blocks} {c : ℕ} {to : Sort} {ts : List Thing} (held : Held b c t
   pairs_in : Blocked (joins (solid ts)) (place_area p) → SeamOf b p
   pairs_in h = let u = joins_at (place_area p) ts h in pair_in u.0 u.1 (thing_at ts u.0) refl u.2
 
-  -- what a keep_out blocks, it blocks as an item
+  -- what a keep-out blocks, it blocks as an item
   solid_bars : (l : Layout) (us : List Thing) → Blocked (solid us) (place_area p) → Any (ItemBars l wires keep_outs (place_area p)) us
   unfolding Blocked Any solid ItemBars blocks_of areas
   solid_bars l [] h = h
@@ -64,7 +64,7 @@ module _ {b : Blocks} {c : ℕ} {to : Sort} {ts : List Thing} (held : Held b c t
   solid_bars l (keep_out i r ∷ us) (inr h) = inr (solid_bars l us h)
   solid_bars l (wire i ps ∷ us) h = inr (solid_bars l us h)
 
-  -- a run along a seam goes through a keep_out or across a rectangle of two; what goes across one is along a seam
+  -- a run along a seam goes through a keep-out or across a rectangle of two; what goes across one is along a seam
   pub in_seam : (l : Layout) → InSeam ts (place_area p) → Any (ItemBars l wires keep_outs (place_area p)) ts ⊎ SeamOf b p
   unfolding Blocked
   in_seam l h = ⊎_elim (λ k. inl (solid_bars l ts k)) (λ k. inr (pairs_in k)) (any_split _ (solid ts) (joins (solid ts)) (seam_in ts (place_area p) h))

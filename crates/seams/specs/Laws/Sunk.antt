@@ -86,7 +86,7 @@ module _ {b : Blocks} {c : ℕ} {to : Sort} {ts : List Thing} (held : Held b c t
           ),
         )
 
-    -- a keep_out that holds one of the cells
+    -- a keep-out that holds one of the cells
     module _ (hx : 1 ≤ x) (hy : 1 ≤ y) (i : ℕ) where
       holds_out : HoldsOne b x y i → (i < length ts) × Any (Covers (thing_at ts i)) (round here)
       unfolding Any step
@@ -105,7 +105,7 @@ module _ {b : Blocks} {c : ℕ} {to : Sort} {ts : List Thing} (held : Held b c t
       holds_in l (inr (inr (inr (inl h)))) = inr (inr (inr (inl (thing_stops held KeepOuts _ i l (covers_in c to _ (step N (step E here)) _ (omega arith) h)))))
       holds_in l (inr (inr (inr (inr h)))) = absurd h
 
-    -- it blocks the node: it holds one of the cells, and each lies in some keep_out
+    -- it blocks the node: it holds one of the cells, and each lies in some keep-out
     abbrev pub Encloses : Thing → Type 0
     Encloses t = Sealed ts (round here) × Any (Covers t) (round here)
 
