@@ -9,17 +9,19 @@ use std::path::{Path, PathBuf};
 use std::process::{Command, Output, Stdio};
 
 use bench::peer::bench_folder;
-use common::programs::{scratch, script};
+use common::programs::script;
 use common::worked_input;
 
-/// A repository under a name, with a program in the proved one's place.
+/// A repository under a name, with a program in the proved one's place. It stands outside this
+/// one, as the kit takes no second crates.txt below the first, and goes when its test ends.
 struct Copy {
     folder: PathBuf,
 }
 
 impl Copy {
     fn new(name: &str, program: &str) -> Copy {
-        let (folder, original) = (scratch(name), bench_folder().join(".."));
+        let folder = std::env::temp_dir().join(format!("{name}-{}", std::process::id()));
+        let original = bench_folder().join("..");
         let _ = fs::remove_dir_all(&folder);
         let make = |part: &str| fs::create_dir_all(folder.join(part)).expect("a folder");
         ["bench/target/release", "crates/trackprint/out", "tools", "work"]
@@ -62,6 +64,12 @@ impl Copy {
             "{command}: {printed}"
         );
         assert_eq!(output.status.code(), Some(status), "{command}");
+    }
+}
+
+impl Drop for Copy {
+    fn drop(&mut self) {
+        let _ = fs::remove_dir_all(&self.folder);
     }
 }
 
