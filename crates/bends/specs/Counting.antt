@@ -56,10 +56,7 @@ module _ (m : Map) (d c : List ℕ) (q : Node) where
 
 -- ---- both
 
-module _ (m : Map) (d c : List ℕ) (q g : Node) (k : Counting m d q g c) (h v : ℕ) (l : Least m d c q false h) (u : Least m d c q true v) where
-  ch : Charted m d
-  ch = k.visiting.charted
-
+module _ (m : Map) (d c : List ℕ) (q g : Node) (ch : Charted m d) (k : Counting m d q g c) (h v : ℕ) (l : Least m d c q false h) (u : Least m d c q true v) where
   o : On m q
   o = k.visiting.on_chart
 

@@ -4,7 +4,7 @@ use Rattle.std.specs.Prelude.{ℕ, ◌+◌, ◌≤◌, ◌<◌, ◌≡◌, Bool,
 use Rattle.paper.specs.Grid.{Node, Dir, step, Axis, level}
 use Rattle.paper.specs.Laws.Steps.{axis_of}
 use Rattle.distances.specs.Ways.{Map}
-use Rattle.trace.specs.Trail.{distance, Leads, Charted, slot, noted, turning, axis_by}
+use Rattle.trace.specs.Trail.{distance, Leads, slot, noted, turning, axis_by}
 
 -- what it costs to go on along an axis
 abbrev pub turn : Axis → Axis → ℕ
@@ -68,7 +68,6 @@ abbrev pub Owed : Map → List ℕ → Node → ℕ → Type 0
 Owed m d g n = (p : Node) → On m p → distance d p ≤ n → ¬ (p ≡ g) → (e : Dir) × Leads m d p e
 
 pub record Visiting (m : Map) (d : List ℕ) (q g : Node) (c : List ℕ) : Type 0 where
-  pub charted : Charted m d
   pub on_chart : On m q
   pub target : distance d g ≡ 0
   pub owed : Owed m d g (distance d q)
@@ -100,7 +99,6 @@ pub record Counted (m : Map) (d : List ℕ) (q g : Node) (c c' : List ℕ) : Typ
   pub grown : Grown (λ p. p ≡ q) c c'
 
 pub record Asked (m : Map) (d : List ℕ) (s g : Node) (c : List ℕ) : Type 0 where
-  pub charted : Charted m d
   pub on_chart : On m s
   pub target : distance d g ≡ 0
   pub owed : Owed m d g (distance d s)

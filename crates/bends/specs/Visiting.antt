@@ -6,8 +6,7 @@ use Rattle.std.proofs.Math.Decide.{ℕ_discrete}
 use Rattle.std.proofs.Math.Logic.{by_cases}
 use Rattle.paper.specs.Grid.{Node, Dir, E, N, W, S, step, level}
 use Rattle.distances.specs.Ways.{Map}
-use Rattle.trace.specs.Trail.{distance, Leads}
-use Rattle.trace.specs.Trail.{slot, noted}
+use Rattle.trace.specs.Trail.{distance, Leads, Charted, slot, noted}
 use Rattle.bends.specs.Table.{On, Reach, here, on, Beyond, Exact, Grown, Visiting, Toward, Visited, Counting, Counted, Asked, Bends}
 use Rattle.bends.specs.Going.{falls, lands, reach_on, beyond_reach, beyond_near, slot_one}
 use Rattle.bends.specs.Writing.{after, written, exact_home}
@@ -27,12 +26,11 @@ grown_then {c₁ = c₁} f g a b = record {
 module _ (m : Map) (d : List ℕ) (q g : Node) where
   -- ---- toward a neighbour
 
-  pub visiting_on : (e : Dir) (c : List ℕ) → Visiting m d q g c → Leads m d q e → Visiting m d (step e q) g c
-  visiting_on e c v l = record {
-    charted = v.charted;
+  pub visiting_on : Charted m d → (e : Dir) (c : List ℕ) → Visiting m d q g c → Leads m d q e → Visiting m d (step e q) g c
+  visiting_on ch e c v l = record {
     on_chart = lands m d q e v.on_chart l;
     target = v.target;
-    owed = λ p o h n. v.owed p o (omega (arith, h, falls m d v.charted q e l)) n;
+    owed = λ p o h n. v.owed p o (omega (arith, h, falls m d ch q e l)) n;
     long = v.long;
     sound = v.sound;
   }
@@ -50,7 +48,6 @@ module _ (m : Map) (d : List ℕ) (q g : Node) where
 
   pub visiting_then : (e : Dir) (c c' : List ℕ) → Visiting m d q g c → Toward m d q g e c c' → Visiting m d q g c'
   visiting_then e c c' v t = record {
-    charted = v.charted;
     on_chart = v.on_chart;
     target = v.target;
     owed = v.owed;
@@ -71,12 +68,12 @@ module _ (m : Map) (d : List ℕ) (q g : Node) where
     grown = grown_then (λ p r. r) (λ p e. subst (Reach m d q) (sym e) here) b k.grown;
   }
 
-  pub visited_home : (c : List ℕ) → Visiting m d q g c → noted c level q ≡ 0 → q ≡ g → Visited m d q g c (after c q 1 1)
-  visited_home c v z e =
+  pub visited_home : Charted m d → (c : List ℕ) → Visiting m d q g c → noted c level q ≡ 0 → q ≡ g → Visited m d q g c (after c q 1 1)
+  visited_home ch c v z e =
       of_counted c c (after c q 1 1) grown_same
-      (written m d v.charted c q 1 1 v.on_chart v.long g z v.sound (exact_home m d v.charted c q g v.on_chart v.long e v.target))
+      (written m d ch c q 1 1 v.on_chart v.long g z v.sound (exact_home m d ch c q g v.on_chart v.long e v.target))
 
-  module _ (c c₁ c₂ c₃ c₄ : List ℕ) (v : Visiting m d q g c) (z : noted c level q ≡ 0) (ne : ¬ (q ≡ g))
+  module _ (ch : Charted m d) (c c₁ c₂ c₃ c₄ : List ℕ) (v : Visiting m d q g c) (z : noted c level q ≡ 0) (ne : ¬ (q ≡ g))
       (t₁ : Toward m d q g E c c₁) (t₂ : Toward m d q g N c₁ c₂) (t₃ : Toward m d q g W c₂ c₃) (t₄ : Toward m d q g S c₃ c₄) where
     two : Grown (Beyond m d q) c₂ c₄
     two = grown_then (λ p b. b) (λ p b. b) t₃.grown t₄.grown
@@ -92,8 +89,8 @@ module _ (m : Map) (d : List ℕ) (q g : Node) where
         let n = four.new (slot level q) z h in
         let b = n.2 in
         let o = reach_on m d q n.1 v.on_chart (beyond_reach m d q n.1 b) in
-        let e = slot_one m d v.charted level n.0 q n.1 v.on_chart o n.3 in
-        omega (arith, ap (distance d) e, beyond_near m d v.charted q n.1 b)
+        let e = slot_one m d ch level n.0 q n.1 v.on_chart o n.3 in
+        omega (arith, ap (distance d) e, beyond_near m d ch q n.1 b)
 
     stays : {a b : List ℕ} (e : Dir) → Grown (Beyond m d q) a b → 1 ≤ noted a level (step e q) → 1 ≤ noted b level (step e q)
     stays e w h = omega (arith, w.kept (slot level (step e q)) h, h)
@@ -106,7 +103,7 @@ module _ (m : Map) (d : List ℕ) (q g : Node) where
 
     pub counting : Counting m d q g c₄
     counting = record {
-      visiting = record { charted = v.charted; on_chart = v.on_chart; target = v.target; owed = v.owed; long = t₄.long; sound = t₄.sound };
+      visiting = record { on_chart = v.on_chart; target = v.target; owed = v.owed; long = t₄.long; sound = t₄.sound };
       away = ne;
       blank = omega (arith, still);
       seen = each;
@@ -121,7 +118,6 @@ module _ (m : Map) (d : List ℕ) (q g : Node) where
 module _ (m : Map) (d : List ℕ) (s g : Node) (c : List ℕ) (a : Asked m d s g c) where
   pub asked : Visiting m d s g c
   asked = record {
-    charted = a.charted;
     on_chart = a.on_chart;
     target = a.target;
     owed = a.owed;

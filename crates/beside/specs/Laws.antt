@@ -4,6 +4,8 @@ use Rattle.std.specs.Prelude.{ℕ, zero, suc, ◌≡◌, refl, ◌⊎◌, Bool, 
 use Rattle.std.proofs.Common.{arith, sym, ap, subst, ◌∙◌, inl, inr}
 use Rattle.paper.specs.declared.Board.{Board}
 use Rattle.paper.specs.declared.Reply.{Reply}
+use Rattle.paper.specs.declared.Refusal.{Refusal}
+use Rattle.paper.specs.declared.Refusal.TheVariants.{IllFormed, OtherIndex}
 use Rattle.paper.specs.Layout.{Layout, fresh, Sound}
 use Rattle.paper.specs.Padding.{board_of, Holds, WellFormed}
 use Rattle.paper.specs.declared.Record.{Record}
@@ -105,6 +107,10 @@ kept_afresh cs b i f = kept_on (board_of fresh) no_index cs b i agrees_fresh f
 pub agrees_says : (b : Board) (i j : Index) {t : Bool} → WellFormed b → IndexOf (layout_of b) j → Says t (i ≡ j) → Says t (Agrees b i)
 agrees_says b i j w h =
     says_as (λ e. agrees_of b i w (subst (λ k. IndexOf (layout_of b) k) (sym e) h)) (λ a. one_index (layout_of b) i j (agrees_read b i a) h)
+
+-- why a board and an index are refused before anything is asked of them
+abbrev pub Unfit : Board → Index → Refusal → Type 0
+Unfit b i why = ((¬ (WellFormed b)) × (why ≡ IllFormed)) ⊎ (WellFormed b × (¬ (Agrees b i)) × (why ≡ OtherIndex))
 
 -- what `told` gives back
 pub told_as : (k : ℕ) (b : Board) (i : Index) (s : List ℕ) → AsItWas k b i s s (record { reply = refusing (plain k) b; index = i })

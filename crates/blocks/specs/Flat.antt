@@ -1,6 +1,6 @@
 -- The struct `Blocks` in the paper's words: its blocks, item by item, what a scan finds among them, and how they hold a board's items.
 -- Assumes nothing.
-use Rattle.std.specs.Prelude.{ℕ, zero, suc, ◌+◌, ◌-◌, ◌≤◌, ◌<◌, ◌≡◌, Bool, true, false, not, List, [], ◌∷◌, map, length, get_or}
+use Rattle.std.specs.Prelude.{ℕ, zero, suc, ◌+◌, ◌-◌, ◌≤◌, ◌<◌, ◌≡◌, Bool, true, false, not, List, [], ◌∷◌, map, length, get_or, Option, Some, None, is_some}
 use Rattle.paper.specs.Limits.{most_blocks}
 use Rattle.paper.specs.Grid.{Area, Span, Block, widened, Blocked}
 use Rattle.paper.specs.Layout.{Thing, keep_out, wire, Sort, keep_outs, wires, areas, blocks_to, block_count, Layout}
@@ -9,8 +9,6 @@ use Rattle.blocks.specs.declared.Blocks.{Blocks}
 use Rattle.blocks.specs.declared.Place.{Place}
 use Rattle.blocks.specs.declared.Look.{Look}
 use Rattle.blocks.specs.declared.Look.TheVariants.{KeepOuts, Wires, Either}
-use Rattle.blocks.specs.declared.Found.{Found}
-use Rattle.blocks.specs.declared.Found.TheVariants.{At, Nothing}
 
 -- ---- the arrays, read
 
@@ -20,11 +18,11 @@ span lo hi c = record { lo = lo; hi = hi; c = c }
 abbrev pub place_area : Place → Area
 place_area p = record { low = record { x = p.x0; y = p.y0 }; high = record { x = p.x1; y = p.y1 } }
 
+abbrev pub place_at : Blocks → ℕ → Place
+place_at b k = record { x0 = get_or b.x0 k 0; y0 = get_or b.y0 k 0; x1 = get_or b.x1 k 0; y1 = get_or b.y1 k 0 }
+
 unfoldable pub block_at : Blocks → ℕ → Block
-block_at b k = widened (get_or b.c k 0) (record {
-  low = record { x = get_or b.x0 k 0; y = get_or b.y0 k 0 };
-  high = record { x = get_or b.x1 k 0; y = get_or b.y1 k 0 };
-})
+block_at b k = widened (get_or b.c k 0) (place_area (place_at b k))
 
 -- f k, f (k + 1) and so on, n of them
 unfoldable pub listed : {A : Type 0} → (ℕ → A) → ℕ → ℕ → List A
@@ -63,17 +61,13 @@ unfoldable pub Stops : Blocks → Look → Place → ℕ → Type 0
 Stops b look p i = (i < b.items) × (looked look (get_or b.wires i false) ≡ true) × Blocked (blocks_in b i) (place_area p)
 
 -- the first such item, or none
-unfoldable pub FirstIs : Blocks → Look → Place → Found → Type 0
-FirstIs b look p (At i) = Stops b look p i × ((j : ℕ) → j < i → ¬ (Stops b look p j))
-FirstIs b look p Nothing = (j : ℕ) → ¬ (Stops b look p j)
-
-abbrev pub is_found : Found → Bool
-is_found (At i) = true
-is_found Nothing = false
+unfoldable pub FirstIs : Blocks → Look → Place → Option ℕ → Type 0
+FirstIs b look p (Some i) = Stops b look p i × ((j : ℕ) → j < i → ¬ (Stops b look p j))
+FirstIs b look p None = (j : ℕ) → ¬ (Stops b look p j)
 
 -- whether there is one
 unfoldable pub Hit : Blocks → Look → Place → Bool → Type 0
-Hit b look p r = (f : Found) × FirstIs b look p f × (r ≡ is_found f)
+Hit b look p r = (f : Option ℕ) × FirstIs b look p f × (r ≡ is_some f)
 
 -- ---- what is held
 

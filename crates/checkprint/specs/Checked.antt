@@ -1,6 +1,6 @@
 -- Document 02, order 1, as the program `checkprint` shows it: a piece of its input, what it does, and the line of a drawn wire.
 -- Assumes nothing.
-use Rattle.std.specs.Prelude.{ℕ, zero, suc, ◌+◌, ◌*◌, ◌≡◌, ◌⊎◌, List, [], ◌∷◌, ◌++◌, length, get_or, drop}
+use Rattle.std.specs.Prelude.{ℕ, zero, suc, ◌+◌, ◌*◌, ◌≡◌, ◌⊎◌, Option, Some, None, List, [], ◌∷◌, ◌++◌, length, get_or, drop}
 use Rattle.paper.specs.declared.Board.{Board}
 use Rattle.paper.specs.declared.Reply.{Reply}
 use Rattle.paper.specs.declared.Judged.{Judged}
@@ -12,8 +12,6 @@ use Rattle.text.specs.Text.{Part, number, byte, Spells, Puts, Writes}
 use Rattle.sheet.specs.Sheet.{space, line_end}
 use Rattle.checkprint.specs.declared.Last.{Last}
 use Rattle.checkprint.specs.declared.Last.TheVariants.{End, Bad, Cut}
-use Rattle.checkprint.specs.declared.Stop.{Stop}
-use Rattle.checkprint.specs.declared.Stop.TheVariants.{Going, Over, Unread, Unwritten}
 use Rattle.checkprint.specs.declared.Done.{Done}
 
 -- ---- the pieces
@@ -36,28 +34,23 @@ IsWire bs = (get_or bs 0 0 ≡ 119) × (length bs ≡ 2 + 2 * get_or bs 1 0)
 abbrev pub IsPiece : List ℕ → Type 0
 IsPiece bs = IsRecord bs ⊎ IsWire bs
 
--- how many bytes a piece has, by its letter and the byte after it; 0 where no piece has the letter
-abbrev pub SizeFor : ℕ → ℕ → ℕ → Type 0
+-- how many bytes a piece has, by its letter and the byte after it; none where no piece has the letter
+abbrev pub SizeFor : ℕ → ℕ → Option ℕ → Type 0
 SizeFor letter next size =
-    ((letter ≡ 114) × (size ≡ 13)) ⊎ ((letter ≡ 119) × (size ≡ 2 + 2 * next)) ⊎ ((¬ (letter ≡ 114)) × (¬ (letter ≡ 119)) × (size ≡ 0))
+    ((letter ≡ 114) × (size ≡ Some 13)) ⊎ ((letter ≡ 119) × (size ≡ Some (2 + 2 * next))) ⊎ ((¬ (letter ≡ 114)) × (¬ (letter ≡ 119)) × (size ≡ None))
 
--- what the bytes say that were read for a piece: they are one; nothing was left; or they are none
-abbrev pub StopFor : List ℕ → Stop → Type 0
-StopFor bs Going = IsPiece bs
-StopFor bs (Over End) = bs ≡ []
-StopFor bs (Over Bad) = (¬ (bs ≡ [])) × (¬ (IsPiece bs))
-StopFor bs (Over Cut) = ⊥
-StopFor bs Unread = ⊥
-StopFor bs Unwritten = ⊥
+-- the last word, by the bytes that were read for a piece: none, since they are one; nothing was left; or they are no piece
+abbrev pub StopFor : List ℕ → Option Last → Type 0
+StopFor bs None = IsPiece bs
+StopFor bs (Some End) = bs ≡ []
+StopFor bs (Some Bad) = (¬ (bs ≡ [])) × (¬ (IsPiece bs))
+StopFor bs (Some Cut) = ⊥
 
--- and those that were read after the last piece
-abbrev pub StopAfter : List ℕ → Stop → Type 0
-StopAfter bs Going = ⊥
-StopAfter bs (Over End) = bs ≡ []
-StopAfter bs (Over Bad) = ⊥
-StopAfter bs (Over Cut) = ¬ (bs ≡ [])
-StopAfter bs Unread = ⊥
-StopAfter bs Unwritten = ⊥
+-- and by those that were read after the last piece
+abbrev pub StopAfter : List ℕ → Last → Type 0
+StopAfter bs End = bs ≡ []
+StopAfter bs Bad = ⊥
+StopAfter bs Cut = ¬ (bs ≡ [])
 
 -- the 16-bit numbers that the bytes hold, little-endian
 unfoldable pub words_in : List ℕ → List ℕ

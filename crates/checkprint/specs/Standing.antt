@@ -1,16 +1,13 @@
 -- Where the printing stands: the pieces so far, what they have printed, and what of it waits in the buffer; and how it ends.
 -- Assumes nothing.
-use Rattle.std.specs.Prelude.{ℕ, ◌+◌, ◌≤◌, ◌<◌, ◌≡◌, ◌⊎◌, List, [], ◌∷◌, ◌++◌, length, take}
+use Rattle.std.specs.Prelude.{ℕ, ◌+◌, ◌≤◌, ◌<◌, ◌≡◌, ◌⊎◌, Option, Some, None, Result, Ok, Err, OnOk, List, [], ◌∷◌, ◌++◌, length, take}
 use Rattle.paper.specs.declared.Board.{Board}
 use Rattle.paper.specs.Layout.{fresh}
 use Rattle.paper.specs.Padding.{board_of, WellFormed}
+use Rattle.input.specs.declared.Broken.{Broken}
+use Rattle.checkprint.specs.declared.Last.{Last}
 use Rattle.checkprint.specs.declared.Last.TheVariants.{End, Bad, Cut}
-use Rattle.checkprint.specs.declared.Stop.{Stop}
-use Rattle.checkprint.specs.declared.Stop.TheVariants as stop
-use Rattle.checkprint.specs.declared.Spare.{Spare}
-use Rattle.checkprint.specs.declared.Spare.TheVariants as spare
 use Rattle.checkprint.specs.declared.Place.{Place}
-use Rattle.checkprint.specs.declared.Turn.{Turn}
 use Rattle.checkprint.specs.Checked.{most_pieces, line_room, Acts}
 
 -- ---- the pieces one after another
@@ -36,33 +33,30 @@ pub record Stands (p : Place) (buffer : List ℕ) : Type 0 where
 abbrev pub with_waiting : Place → ℕ → Place
 with_waiting p at = record { pieces = p.pieces; wires = p.wires; waiting = at; board = p.board }
 
--- in a buffer of so many bytes, the next line begins after those that wait, or at the start
-abbrev pub SpareIs : ℕ → ℕ → Spare → Type 0
-SpareIs room waiting (spare.At at) = ((at ≡ waiting) ⊎ (at ≡ 0)) × (at + line_room ≤ room)
-SpareIs room waiting spare.Unwritten = Unit {0}
+-- in a buffer of so many bytes, the next line begins after those that wait, or at the start; it has room there, unless a write failed
+abbrev pub SpareIs : ℕ → ℕ → ℕ → Result (Unit {0}) Broken → Type 0
+SpareIs room waiting at r = ((at ≡ waiting) ⊎ (at ≡ 0)) × OnOk r (at + line_room ≤ room)
 
 -- ---- how it ends
 
--- after n pieces: no piece is bad once all are read, and input is left only then
-abbrev pub EndsAt : Stop → ℕ → Type 0
-EndsAt stop.Going n = ⊥
-EndsAt (stop.Over End) n = n ≤ most_pieces
-EndsAt (stop.Over Bad) n = n < most_pieces
-EndsAt (stop.Over Cut) n = n ≡ most_pieces
-EndsAt stop.Unread n = n ≤ most_pieces
-EndsAt stop.Unwritten n = n ≤ most_pieces
+-- after n pieces, with the last word or broken off: no piece is bad once all are read, and input is left only then
+abbrev pub EndsAt : Result Last Broken → ℕ → Type 0
+EndsAt (Ok End) n = n ≤ most_pieces
+EndsAt (Ok Bad) n = n < most_pieces
+EndsAt (Ok Cut) n = n ≡ most_pieces
+EndsAt (Err broken) n = n ≤ most_pieces
 
 -- a turn counts a piece more, or is the last
-abbrev pub Counts : ℕ → Stop → ℕ → Type 0
-Counts n stop.Going m = m ≡ n + 1
-Counts n (stop.Over l) m = EndsAt (stop.Over l) m
-Counts n stop.Unread m = EndsAt stop.Unread m
-Counts n stop.Unwritten m = EndsAt stop.Unwritten m
+abbrev pub Counts : ℕ → Result (Option Last) Broken → ℕ → Type 0
+Counts n (Ok None) m = m ≡ n + 1
+Counts n (Ok (Some l)) m = EndsAt (Ok l) m
+Counts n (Err broken) m = EndsAt (Err broken) m
 
-pub record Turned (p : Place) (r : Turn) (buffer : List ℕ) : Type 0 where
-  pub stands : Stands r.place buffer
-  pub counts : Counts p.pieces r.stop r.place.pieces
+-- from the one place to the other
+pub record Turned (p q : Place) (r : Result (Option Last) Broken) (buffer : List ℕ) : Type 0 where
+  pub stands : Stands q buffer
+  pub counts : Counts p.pieces r q.pieces
 
-pub record Ended (r : Turn) (buffer : List ℕ) : Type 0 where
-  pub stands : Stands r.place buffer
-  pub ends : EndsAt r.stop r.place.pieces
+pub record Ended (p : Place) (r : Result Last Broken) (buffer : List ℕ) : Type 0 where
+  pub stands : Stands p buffer
+  pub ends : EndsAt r p.pieces

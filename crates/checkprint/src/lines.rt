@@ -21,10 +21,8 @@ fn put_words(bytes: &[u8], numbers: &mut [u16]) -> usize
     ensures { (result ≤ length numbers.new) × (take result numbers.new ≡ words_in bytes.now) }
 {
     let n = bytes.len() / 2;
-    let mut k: usize = 0;
-    while k < n {
+    for k in 0..n {
         numbers[k] = number(bytes, k + k);
-        k += 1;
     }
     n
 }
@@ -32,19 +30,16 @@ fn put_words(bytes: &[u8], numbers: &mut [u16]) -> usize
 // ---- a line
 
 // What stands after the code: with 0 the excess, else the run, where one is named.
+#[tactic(auto, using(crate::specs::Laws::Shown::told_excess, crate::specs::Laws::Shown::told_none, crate::specs::Laws::Shown::told_run, text::specs::Laws::Written::writes_none))]
 fn put_told(buffer: &mut [u8], at: usize, judged: Judged) -> usize
     requires { at + 11 ≤ length buffer.old }
     ensures { Writes (told_of judged) buffer.old at buffer.new result × (result ≤ at + 11) }
 {
-    let excess = judged.excess;
-    let run = judged.run as u32;
-    if judged.code == 0 {
-        return put_next(buffer, at, excess);
+    match (judged.code, judged.run) {
+        (0, _) => put_next(buffer, at, judged.excess),
+        (_, 0) => at,
+        (_, run) => put_next(buffer, at, u32::from(run)),
     }
-    if run == 0 {
-        return at;
-    }
-    put_next(buffer, at, run)
 }
 
 // The line of the drawn wire with the number n, from the buffer's start: how many bytes it has.
@@ -53,7 +48,7 @@ fn put_line(buffer: &mut [u8], n: u32, judged: Judged) -> usize
     ensures { Writes (line_of n judged) buffer.old 0 buffer.new result }
 {
     let first = put_number(buffer, 0, n);
-    let coded = put_next(buffer, first, judged.code as u32);
+    let coded = put_next(buffer, first, u32::from(judged.code));
     let told = put_told(buffer, coded, judged);
     put_byte(buffer, told, b'\n')
 }
@@ -78,8 +73,8 @@ pub(crate) fn put_last(buffer: &mut [u8], last: Last) -> usize
     ensures { Writes (last_line last) buffer.old 0 buffer.new result }
 {
     match last {
-        Last::End => put_word(buffer, b'e', b'n', b'd'),
-        Last::Bad => put_word(buffer, b'b', b'a', b'd'),
-        Last::Cut => put_word(buffer, b'c', b'u', b't'),
+        Last::End => put_word(buffer, b"end"),
+        Last::Bad => put_word(buffer, b"bad"),
+        Last::Cut => put_word(buffer, b"cut"),
     }
 }

@@ -13,27 +13,18 @@ mod lines;
 mod pieces;
 mod turns;
 
-use input::large_buffer;
+use input::{Broken, zeros};
 use lines::put_last;
 use paper::Board;
 use std::io::{Read, Write};
-use turns::print;
+use turns::{print, start_place};
 
 // The word of the last line.
-#[derive(Clone, Copy)]
+#[derive(Clone, Copy, PartialEq, Eq, Debug)]
 enum Last {
     End,
     Bad,
     Cut,
-}
-
-// Whether the printing goes on: it does, or it is over, or a read failed, or a write did.
-#[derive(Clone, Copy)]
-enum Stop {
-    Going,
-    Over(Last),
-    Unread,
-    Unwritten,
 }
 
 // What a piece leaves: how many bytes its line has, the drawn wires so far, and the board.
@@ -53,49 +44,24 @@ struct Place {
     board: Board,
 }
 
-#[derive(Clone, Copy)]
-struct Turn {
-    place: Place,
-    stop: Stop,
+// Every line, then the last one.
+fn run<R: Read, W: Write>(source: &mut R, sink: &mut W) -> Result<(), Broken> {
+    let mut out = zeros::<65536>();
+    let mut place = start_place();
+    let ended = print(source, sink, &mut place, &mut out);
+    write(sink, &out[..place.waiting])?;
+    let n = put_last(&mut out, ended?);
+    write(sink, &out[..n])
 }
 
-// Where a line begins in the buffer, unless those before it could not be written.
-#[derive(Clone, Copy)]
-enum Spare {
-    At(usize),
-    Unwritten,
-}
-
-// Every line, then the last one. Whether all could be read and written.
-fn run<R: Read, W: Write>(source: &mut R, sink: &mut W) -> Stop {
-    let mut out = large_buffer();
-    let end = print(source, sink, &mut out);
-    let waiting = end.place.waiting;
-    if sink.write_all(&out[..waiting]).is_err() {
-        return Stop::Unwritten;
-    }
-    let stop = end.stop;
-    let Stop::Over(last) = stop else {
-        return stop;
-    };
-    let n = put_last(&mut out, last);
-    if sink.write_all(&out[..n]).is_ok() {
-        return stop;
-    }
-    Stop::Unwritten
+fn write<W: Write>(sink: &mut W, bytes: &[u8]) -> Result<(), Broken> {
+    sink.write_all(bytes).map_err(|_| Broken::Unwritten)
 }
 
 fn main(rt: HostRuntime) {
     let mut source = rt.stdin();
     let mut sink = rt.stdout();
-    match run(&mut source, &mut sink) {
-        Stop::Going => {}
-        Stop::Over(_) => {}
-        Stop::Unread => {
-            let _ = rt.eprintln("checkprint: standard input cannot be read");
-        }
-        Stop::Unwritten => {
-            let _ = rt.eprintln("checkprint: standard output cannot be written");
-        }
+    if let Err(broken) = run(&mut source, &mut sink) {
+        let _ = eprintln!(rt; "checkprint: {broken}");
     }
 }

@@ -1,13 +1,14 @@
 // One piece after another, and their lines into a buffer that is written when it is full.
-ghost use Rattle.std.specs.Prelude.{◌≡◌, ◌+◌, ◌≤◌, ◌<◌, length};
+ghost use Rattle.std.specs.Prelude.{◌≡◌, ◌+◌, ◌≤◌, ◌<◌, length, List, ℕ, MatchResult};
 ghost use Rattle.paper.specs.Padding.{WellFormed};
 ghost use Rattle.checkprint.specs.Checked.{IsPiece, line_room, most_bytes, most_pieces, ActsIn};
-ghost use Rattle.checkprint.specs.Standing.{with_waiting, SpareIs, Stands, Turned, Ended};
+ghost use Rattle.checkprint.specs.Standing.{SpareIs, Stands, Turned, Ended};
 
 use crate::lines::wire_line;
 use crate::pieces::{left_over, read_piece, stop_for};
-use crate::{Done, Place, Spare, Stop, Turn};
+use crate::{Done, Last, Place, write};
 use feed::feed_sound;
+use input::{Broken, zeros};
 use paper::{Board, LEAST_SLICE};
 use sheet::start;
 use std::io::{Read, Write};
@@ -30,129 +31,103 @@ fn step(piece: &[u8], wires: u32, board: Board, line: &mut [u8]) -> Done
     if piece[0] == b'r' {
         let mut answer = [0u16; LEAST_SLICE];
         let reply = feed_sound(board, &piece[1..], &mut answer);
-        let left = reply.board;
         return Done {
             written: 0,
-            wires: wires,
-            board: left,
+            wires,
+            board: reply.board,
         };
     }
     let written = wire_line(&piece[2..], wires + 1, board, line);
     Done {
-        written: written,
+        written,
         wires: wires + 1,
-        board: board,
+        board,
     }
 }
 
 // ---- the lines
 
 // Where the next line begins: after those that wait, or, where it has no room there, at the buffer's start, once they are written.
-fn line_start<W: Write>(sink: &mut W, out: &[u8], waiting: usize) -> Spare
-    requires { (waiting ≤ length out.now) × (line_room ≤ length out.now) }
-    ensures { SpareIs (length out.now) waiting result }
+fn line_start<W: Write>(sink: &mut W, out: &[u8], waiting: &mut usize) -> Result<(), Broken>
+    requires { (waiting.old ≤ length out.now) × (line_room ≤ length out.now) }
+    ensures { SpareIs (length out.now) waiting.old waiting.new result }
 {
-    if out.len() - waiting >= LINE_ROOM {
-        return Spare::At(waiting);
+    let full = *waiting;
+    if out.len() - full >= LINE_ROOM {
+        return Ok(());
     }
-    if sink.write_all(&out[..waiting]).is_ok() {
-        return Spare::At(0);
-    }
-    Spare::Unwritten
-}
-
-// The place with so many bytes waiting.
-fn with_waiting(place: Place, at: usize) -> Place
-    ensures { result ≡ with_waiting place at }
-{
-    let mut next = place;
-    next.waiting = at;
-    next
+    *waiting = 0;
+    write(sink, &out[..full])
 }
 
 // The piece's line goes after those that wait, once there is room for it.
-fn put_piece<W: Write>(sink: &mut W, place: Place, piece: &[u8], out: &mut [u8]) -> Turn
-    requires { Stands place out.old × (place.pieces < most_pieces) × IsPiece piece.now × (line_room ≤ length out.old) }
-    ensures { Turned place result out.new }
+fn put_piece<W: Write>(
+    sink: &mut W,
+    place: &mut Place,
+    piece: &[u8],
+    out: &mut [u8],
+) -> Result<(), Broken>
+    requires { Stands place.old out.old × (place.old.pieces < most_pieces) × IsPiece piece.now × (line_room ≤ length out.old) }
+    ensures stands { Stands place.new out.new }
+    ensures counts { MatchResult result (λ _. place.new.pieces ≡ place.old.pieces + 1) (λ _. place.new.pieces ≡ place.old.pieces) }
 {
-    let Spare::At(at) = line_start(sink, out, place.waiting) else {
-        return Turn {
-            place: with_waiting(place, 0),
-            stop: Stop::Unwritten,
-        };
-    };
-    let board = place.board;
-    let done = step(piece, place.wires, board, &mut out[at..]);
-    let left = done.board;
-    let next = Place {
+    line_start(sink, out, &mut place.waiting)?;
+    let done = step(piece, place.wires, place.board, &mut out[place.waiting..]);
+    *place = Place {
         pieces: place.pieces + 1,
         wires: done.wires,
-        waiting: at + done.written,
-        board: left,
+        waiting: place.waiting + done.written,
+        board: done.board,
     };
-    Turn {
-        place: next,
-        stop: Stop::Going,
-    }
+    Ok(())
 }
 
-// One piece more, or the end: nothing was read, or no piece, or the read failed.
+// One piece more, or the last word: nothing was read, or no piece.
 fn take_turn<R: Read, W: Write>(
     source: &mut R,
     sink: &mut W,
-    place: Place,
+    place: &mut Place,
     room: &mut [u8],
     out: &mut [u8],
-) -> Turn
-    requires { Stands place out.old × (place.pieces < most_pieces) × (length room.old ≡ most_bytes) × (line_room ≤ length out.old) }
-    ensures { Turned place result out.new }
+) -> Result<Option<Last>, Broken>
+    requires { Stands place.old out.old × (place.old.pieces < most_pieces) × (length room.old ≡ most_bytes) × (line_room ≤ length out.old) }
+    ensures { Turned place.old place.new result out.new }
 {
-    let input = read_piece(source, room);
-    if input.failed {
-        return Turn {
-            place: place,
-            stop: Stop::Unread,
-        };
+    let size = read_piece(source, room)?;
+    let last = stop_for(&room[..size]);
+    if last.is_none() {
+        put_piece(sink, place, &room[..size], out)?;
     }
-    let size = input.size;
-    let stop = stop_for(&room[..size]);
-    let Stop::Going = stop else {
-        return Turn {
-            place: place,
-            stop: stop,
-        };
-    };
-    put_piece(sink, place, &room[..size], out)
+    Ok(last)
 }
 
-fn piece_room() -> [u8; MOST_BYTES]
-    ensures { most_bytes ≡ length result }
+// Before any piece.
+pub(crate) fn start_place() -> Place
+    ensures { ((buffer : List ℕ) → Stands result buffer) × (result.pieces ≡ 0) }
 {
-    [0; MOST_BYTES]
-}
-
-// All pieces, and a line for each drawn wire; the last of them wait in the buffer.
-pub(crate) fn print<R: Read, W: Write>(source: &mut R, sink: &mut W, out: &mut [u8]) -> Turn
-    requires { line_room ≤ length out.old }
-    ensures { Ended result out.new }
-{
-    let mut room = piece_room();
-    let mut place = Place {
+    Place {
         pieces: 0,
         wires: 0,
         waiting: 0,
         board: start(),
-    };
-    while place.pieces < MOST_PIECES {
-        let turn = take_turn(source, sink, place, &mut room, out);
-        let stop = turn.stop;
-        let Stop::Going = stop else {
-            return turn;
-        };
-        place = turn.place;
     }
-    Turn {
-        place: place,
-        stop: left_over(source, &mut room),
+}
+
+// All pieces, and a line for each drawn wire; the last of them wait in the buffer. Then the last word.
+pub(crate) fn print<R: Read, W: Write>(
+    source: &mut R,
+    sink: &mut W,
+    place: &mut Place,
+    out: &mut [u8],
+) -> Result<Last, Broken>
+    requires { Stands place.old out.old × (place.old.pieces ≡ 0) × (line_room ≤ length out.old) }
+    ensures { Ended place.new result out.new }
+{
+    let mut room = zeros::<MOST_BYTES>();
+    for _piece in 0..MOST_PIECES {
+        if let Some(last) = take_turn(source, sink, place, &mut room, out)? {
+            return Ok(last);
+        }
     }
+    left_over(source, &mut room)
 }

@@ -1,11 +1,11 @@
 -- What the functions of this crate say of each other: marks as bits.
 -- Assumes nothing.
 use Rattle.std.specs.Prelude.{ℕ, ◌≤◌, ◌<◌, ◌≡◌, Bool, true, false, List, [], length, get_or, eqb}
-use Rattle.blocks.specs.Flat.{listed}
+use Rattle.blocks.specs.declared.Blocks.{Blocks}
+use Rattle.blocks.specs.Flat.{listed, first_at, Fits}
 use Rattle.edges.specs.Marks.{cell}
 use Rattle.tracks.specs.Tracks.{spans, most_tracks, AreTracks}
 use Rattle.paper.specs.declared.Size.{Size}
-use Rattle.paper.specs.Limits.{most_blocks}
 use Rattle.tracks.specs.declared.Tracks.{Tracks}
 use Rattle.index.specs.declared.Edges.{Edges}
 use Rattle.index.specs.Bits.{words_of, no_edges}
@@ -29,10 +29,10 @@ pub record Filled (u : Bool) (d : List ℕ) (count n : ℕ) (es : List Edges) : 
   pub each : (k : ℕ) → k < count → get_or es k no_edges ≡ words_of (bits_of u d k n)
   pub rest : (k : ℕ) → count ≤ k → get_or es k no_edges ≡ no_edges
 
--- the tracks of both axes of a board with n blocks, with no further coordinate
-pub record OnTracks (s : Size) (x0 y0 x1 y1 c : List ℕ) (n : ℕ) (x y : Tracks) : Type 0 where
+-- the tracks of both axes of a board with these blocks, with no further coordinate
+pub record OnTracks (s : Size) (b : Blocks) (x y : Tracks) : Type 0 where
   pub wide : 1 ≤ s.w
   pub high : 1 ≤ s.h
-  pub few : n ≤ most_blocks
-  pub on_x : AreTracks (spans n x0 x1 c) s.w [] x
-  pub on_y : AreTracks (spans n y0 y1 c) s.h [] y
+  pub fits : Fits b
+  pub on_x : AreTracks (spans (first_at b b.items) b.x0 b.x1 b.c) s.w [] x
+  pub on_y : AreTracks (spans (first_at b b.items) b.y0 b.y1 b.c) s.h [] y

@@ -2,20 +2,20 @@
 #![tactic(auto)]
 
 ghost use Rattle.std.specs.Prelude.{◌≡◌, ◌+◌, ◌-◌, ◌<◌, ◌≤◌};
-ghost use Rattle.blocks.specs.Flat.{listed};
+ghost use Rattle.blocks.specs.Flat.{listed, flat};
 ghost use Rattle.paper.specs.Grid.{grid_with};
 ghost use Rattle.paper.specs.Padding.{WellFormed};
 ghost use Rattle.paper.specs.Laws.Back.{layout_of};
 ghost use Rattle.paper.specs.Laws.Joins.{joined};
-ghost use Rattle.edges.specs.Marks.{box_at};
 ghost use Rattle.index.specs.Bits.{digit, number, words_of};
 ghost use Rattle.crowding.specs.Crowding.{BuiltOn, IndexOf};
 ghost use Rattle.crowding.specs.Filling.{cell_of, is_clear, bits_of, Filled, OnTracks};
 
-use edges::{blank, edges};
+use blocks::Blocks;
+use edges::{edges, open_map};
 use index::{Edges, Index, no_index};
 use paper::{Board, Size};
-use tracks::{Tracks, of_axis};
+use tracks::{MOST_TRACKS, Tracks, of_axis};
 
 // ---- from marks to words
 
@@ -28,55 +28,48 @@ fn place(upright: bool, k: usize, t: usize) -> usize
 }
 
 // 1 if there is no mark.
+#[tactic(auto, using(crate::specs::Laws::Marking::digit_is), unfolding(crate::specs::Filling::is_clear))]
 fn bit(shut: &[u8; 9216], upright: bool, k: usize, t: usize) -> u64
     requires { (k < 96) × (t < 96) }
     ensures { result ≡ digit (is_clear upright shut.now k t) }
 {
-    let at = place(upright, k, t);
-    if shut[at] == 0 { 1 } else { 0 }
+    u64::from(shut[place(upright, k, t)] == 0)
 }
 
 // The edges from a on, before b, as a number, the first lowest.
+#[tactic(auto, using(crate::specs::Laws::Marking::number_none, crate::specs::Laws::Marking::number_room, crate::specs::Laws::Marking::number_down, crate::specs::Laws::Marking::digit_le))]
 fn word(shut: &[u8; 9216], upright: bool, k: usize, a: usize, b: usize) -> u64
     requires { (k < 96) × (a ≤ b) × (b ≤ 96) × (b ≤ a + 64) }
     ensures { result ≡ number (listed (is_clear upright shut.now k) a (b - a)) }
 {
-    let mut w: u64 = 0;
-    let mut t = b;
-    while t > a {
-        t -= 1;
+    let mut w = 0;
+    for t in (a..b).rev() {
         w = bit(shut, upright, k, t) + 2 * w;
     }
     w
 }
 
 // The first n edges of track k.
+#[tactic(auto, using(crate::specs::Laws::Marking::words_both))]
 fn edges_of(shut: &[u8; 9216], upright: bool, k: usize, n: usize) -> Edges
     requires { (k < 96) × (n ≤ 96) }
     ensures { result ≡ words_of (bits_of upright shut.now k n) }
 {
-    if n < 64 {
-        return Edges {
-            low: word(shut, upright, k, 0, n),
-            high: 0,
-        };
-    }
+    let low = n.min(64);
     Edges {
-        low: word(shut, upright, k, 0, 64),
-        high: word(shut, upright, k, 64, n),
+        low: word(shut, upright, k, 0, low),
+        high: word(shut, upright, k, low, n),
     }
 }
 
 // The first n edges of each of so many tracks.
-fn lanes(shut: &[u8; 9216], upright: bool, count: usize, n: usize) -> [Edges; 96]
+fn lanes(shut: &[u8; 9216], upright: bool, count: usize, n: usize) -> [Edges; MOST_TRACKS]
     requires { (count ≤ 96) × (n ≤ 96) }
     ensures { Filled upright shut.now count n result }
 {
-    let mut out = [Edges { low: 0, high: 0 }; 96];
-    let mut k: usize = 0;
-    while k < count {
+    let mut out = [Edges { low: 0, high: 0 }; MOST_TRACKS];
+    for k in 0..count {
         out[k] = edges_of(shut, upright, k, n);
-        k += 1;
     }
     out
 }
@@ -84,36 +77,19 @@ fn lanes(shut: &[u8; 9216], upright: bool, count: usize, n: usize) -> [Edges; 96
 // ---- the index
 
 // The edges of the tracks of both axes.
-fn on_tracks(
-    size: Size,
-    x: Tracks,
-    y: Tracks,
-    x0: &[u16; 46],
-    y0: &[u16; 46],
-    x1: &[u16; 46],
-    y1: &[u16; 46],
-    c: &[u16; 46],
-    n: usize,
-) -> Index
-    requires { OnTracks size x0.now y0.now x1.now y1.now c.now n x y }
-    ensures { BuiltOn (grid_with size.w size.h (joined (listed (box_at x0.now y0.now x1.now
-        y1.now c.now) 0 n))) (listed (box_at x0.now y0.now x1.now y1.now
-        c.now) 0 n) result }
+fn on_tracks(size: Size, x: Tracks, y: Tracks, held: &Blocks) -> Index
+    requires { OnTracks size held.now x y }
+    ensures { BuiltOn (grid_with size.w size.h (joined (flat held.now))) (flat held.now) result }
 {
-    let xs = x.at;
-    let nx = x.count;
-    let ys = y.at;
-    let ny = y.count;
-    let mut flat = blank();
-    let mut tall = blank();
-    edges(&mut flat, &mut tall, &xs, nx, &ys, ny, x0, y0, x1, y1, c, n);
-    let upright = lanes(&tall, true, nx, ny - 1);
-    let level = lanes(&flat, false, ny, nx - 1);
+    let mut map = open_map(x, y);
+    edges(&mut map, held);
+    let upright = lanes(&map.tall, true, map.x.count, map.y.count - 1);
+    let level = lanes(&map.flat, false, map.y.count, map.x.count - 1);
     Index {
-        x: x,
-        y: y,
-        upright: upright,
-        level: level,
+        x: map.x,
+        y: map.y,
+        upright,
+        level,
     }
 }
 
@@ -128,15 +104,8 @@ pub fn of_board(board: Board) -> Index
     }
     // what the items are to a wire: keep-outs, and the boxes of runs; n of them
     let held = blocks::of_board(board, true);
-    let last = held.items;
-    let n = held.first[last];
-    let x0 = held.x0;
-    let y0 = held.y0;
-    let x1 = held.x1;
-    let y1 = held.y1;
-    let c = held.c;
-    let none = [0u16; 0];
-    let x = of_axis(&x0, &x1, &c, n, size.w, &none);
-    let y = of_axis(&y0, &y1, &c, n, size.h, &none);
-    on_tracks(size, x, y, &x0, &y0, &x1, &y1, &c, n)
+    let n = held.first[held.items];
+    let x = of_axis(&held.x0, &held.x1, &held.c, n, size.w, &[]);
+    let y = of_axis(&held.y0, &held.y1, &held.c, n, size.h, &[]);
+    on_tracks(size, x, y, &held)
 }

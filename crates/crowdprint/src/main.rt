@@ -17,9 +17,10 @@ ghost use Rattle.crowdprint.specs.Crowded.{FedNext, Leaves, Over, line_in, lines
 use beside::{Kept, crowd_sheet, feed_kept};
 use crowding::of_board;
 use index::{Crowding, Index};
-use input::{large_buffer, read_all};
+use input::{Broken, FILE_ROOM, read_all, zeros};
 use paper::{Board, LEAST_SLICE};
 use sheet::{after_record, put_last, start};
+use std::io::{Read, Write};
 use text::{put_byte, put_next, put_number};
 
 // ---- feeding
@@ -47,20 +48,18 @@ fn feed_next(file: &[u8], records: usize, board: Board, index: Index) -> Kept
 fn feed_all(file: &[u8]) -> Left
     ensures { Leaves file.now result.records result.board × Over file.now result.records × Agrees result.board result.index }
 {
-    let mut records: usize = 0;
+    let records = file.len().div_ceil(12).min(65535);
     let mut board = start();
     let mut index = of_board(board);
-    while records < 65535 && 12 * records < file.len() {
-        let kept = feed_next(file, records, board, index);
-        let reply = kept.reply;
-        records += 1;
-        board = reply.board;
+    for k in 0..records {
+        let kept = feed_next(file, k, board, index);
+        board = kept.reply.board;
         index = kept.index;
     }
     Left {
-        records: records,
-        board: board,
-        index: index,
+        records,
+        board,
+        index,
     }
 }
 
@@ -71,14 +70,11 @@ fn put_line(out: &mut [u8], at: usize, letter: u8, sheet: Crowding, k: usize) ->
     requires { (k < most_lines) × (at + 35 ≤ length out.old) }
     ensures { Writes (line_in letter sheet k) out.old at out.new result × (result ≤ at + 35) }
 {
-    let stands = sheet.at[k] as u32;
-    let free = sheet.free[k] as u32;
-    let stretch = sheet.stretch[k] as u32;
     let named = put_byte(out, at, letter);
-    let first = put_next(out, named, stands);
-    let second = put_next(out, first, free);
-    let third = put_next(out, second, stretch);
-    put_byte(out, third, b'\n')
+    let stands = put_next(out, named, u32::from(sheet.at[k]));
+    let free = put_next(out, stands, u32::from(sheet.free[k]));
+    let stretch = put_next(out, free, u32::from(sheet.stretch[k]));
+    put_byte(out, stretch, b'\n')
 }
 
 // The lines of n tracks, the first of them `from`.
@@ -87,10 +83,8 @@ fn put_lines(out: &mut [u8], at: usize, letter: u8, sheet: Crowding, from: usize
     ensures { Writes (lines_in letter sheet from n) out.old at out.new result × (result ≤ at + 35 * n) }
 {
     let mut next = at;
-    let mut k: usize = 0;
-    while k < n {
+    for k in 0..n {
         next = put_line(out, next, letter, sheet, from + k);
-        k += 1;
     }
     next
 }
@@ -101,12 +95,11 @@ fn put_sheet(out: &mut [u8], sheet: Crowding) -> usize
     ensures { Writes (shown sheet) out.old 0 out.new result × (result ≤ 6720) }
 {
     if sheet.code != 0 {
-        let coded = put_number(out, 0, sheet.code as u32);
+        let coded = put_number(out, 0, u32::from(sheet.code));
         return put_byte(out, coded, b'\n');
     }
-    let upright = sheet.upright;
-    let next = put_lines(out, 0, b'x', sheet, 0, upright);
-    put_lines(out, next, b'y', sheet, upright, sheet.level)
+    let next = put_lines(out, 0, b'x', sheet, 0, sheet.upright);
+    put_lines(out, next, b'y', sheet, sheet.upright, sheet.level)
 }
 
 // The whole text, from the buffer's start: how many bytes it has. 192 lines and the last one, of 4 bytes, are 6,724 at most.
@@ -115,35 +108,27 @@ fn put_all(file: &[u8], out: &mut [u8]) -> usize
     ensures { (text : List ℕ) × CrowdingOf file.now text × Puts text out.old 0 out.new result }
 {
     let left = feed_all(file);
-    let board = left.board;
-    let index = left.index;
-    let sheet = crowd_sheet(board, index);
-    let next = put_sheet(out, sheet);
+    let next = put_sheet(out, crowd_sheet(left.board, left.index));
     let last = put_last(&mut out[next..], 12 * left.records < file.len());
     next + last
 }
 
 // ---- reading and writing
 
-// Room for 65,535 records and one byte more, to see that input is left.
-fn file_room() -> [u8; 786421]
-    ensures { 786421 ≡ length result }
-{
-    [0; 786421]
+// The text of the records of an input.
+fn print<R: Read, W: Write>(source: &mut R, sink: &mut W) -> Result<(), Broken> {
+    let mut room = zeros::<FILE_ROOM>();
+    let size = read_all(source, &mut room)?;
+    let mut out = zeros::<65536>();
+    let n = put_all(&room[..size], &mut out);
+    sink.write_all(&out[..n]).map_err(|_| Broken::Unwritten)
 }
 
 // Where a read or a write fails, a line on standard error says so.
 fn main(rt: HostRuntime) {
-    let mut room = file_room();
     let mut source = rt.stdin();
-    let input = read_all(&mut source, &mut room);
-    if input.failed {
-        let _ = rt.eprintln("crowdprint: standard input cannot be read");
-        return;
-    }
-    let mut out = large_buffer();
-    let n = put_all(&room[..input.size], &mut out);
-    if rt.write_all(&out[..n]).is_err() {
-        let _ = rt.eprintln("crowdprint: standard output cannot be written");
+    let mut sink = rt.stdout();
+    if let Err(broken) = print(&mut source, &mut sink) {
+        let _ = eprintln!(rt; "crowdprint: {broken}");
     }
 }

@@ -1,12 +1,14 @@
 -- An even table: no open way lets one end be lowered, below a bound, by way of the other.
 -- Assumes nothing.
-use Rattle.std.specs.Prelude.{ℕ, ◌+◌, ◌-◌, ◌*◌, ◌≤◌, ◌<◌, min, ◌≡◌, refl, Bool, true, false, not, ◌&&◌, List, length, set, replicate}
+use Rattle.std.specs.Prelude.{ℕ, ◌+◌, ◌-◌, ◌*◌, ◌≤◌, ◌<◌, min, ◌≡◌, refl, Bool, true, false, ◌&&◌, List, length, set, replicate}
 use native.Mathlib.Omega.{arith}
-use Rattle.std.proofs.Common.{sym, ◌∙◌, ⊎_elim, length-set}
+use Rattle.std.proofs.Common.{◌∙◌, ⊎_elim, length-set}
 use Rattle.std.proofs.Math.Path.{subst}
 use Rattle.std.proofs.lemmas.Bool.{false≢true}
 use Rattle.std.proofs.Math.ListN.{get_or, get_or-replicate}
 use Rattle.std.proofs.lemmas.List.{length-replicate}
+use Rattle.std.specs.List.{AllWithin, range_with_len}
+use Rattle.std.proofs.lemmas.List.FromFn.{length-range_with_len, get_or-range_with_len}
 use Rattle.std.proofs.Math.Dec.{leb}
 use borrow.Author.Tests.{leb-true, eq-eqb}
 use Rattle.std.proofs.Math.Decide.{dec_lt}
@@ -14,20 +16,6 @@ use Rattle.distances.specs.Lower.{cost_of}
 use Rattle.distances.specs.Sweep.{width_of, Widths}
 use Rattle.distances.specs.Reached.{after}
 use Rattle.distances.specs.Ways.{cell, Map, Way, east, west, north, south}
-
--- what a test that says yes has found
-pub record If (r : Bool) (P : Type 0) : Type 0 where
-  pub so : r ≡ true → P
-
-pub if_no : {P : Type 0} → If false P
-if_no = record { so = λ h. absurd (false≢true h) }
-
-pub if_yes : {P : Type 0} → P → If true P
-if_yes p = record { so = λ h. p }
-
-pub if_left : {r : Bool} {P : Type 0} → If r P → not r ≡ false → P
-if_left {r = true} f h = f.so refl
-if_left {r = false} f h = absurd (false≢true (sym h))
 
 -- the widths of the slabs between n tracks
 pub record WidthsOf (at : List ℕ) (n : ℕ) (r : List ℕ) : Type 0 where
@@ -46,15 +34,21 @@ unfoldable pub EvenRow : (d shut widths : List ℕ) (low apart n far : ℕ) → 
 EvenRow d shut widths low apart n far =
     (k : ℕ) → k < n → get_or shut (low + k) 0 ≡ 0 → Level far (get_or d (low + k) 0) (get_or d (low + apart + k) 0) (get_or widths k 0)
 
--- of the level ways of the first ny rows
-unfoldable pub EvenRows : (d flat xs : List ℕ) (nx ny far : ℕ) → Type 0
-EvenRows d flat xs nx ny far =
-    (i j : ℕ) → i + 1 < nx → j < ny → get_or flat (cell i j) 0 ≡ 0 → Level far (get_or d (cell i j) 0) (get_or d (cell (i + 1) j) 0) (width_of xs i)
+-- of the level ways of row j; of the first ny rows
+unfoldable pub LevelRow : (d flat xs : List ℕ) (nx far j : ℕ) → Type 0
+LevelRow d flat xs nx far j =
+    (i : ℕ) → i + 1 < nx → get_or flat (cell i j) 0 ≡ 0 → Level far (get_or d (cell i j) 0) (get_or d (cell (i + 1) j) 0) (width_of xs i)
 
--- of the upright ways between the first ny rows
-unfoldable pub EvenColumns : (d tall ys : List ℕ) (nx ny far : ℕ) → Type 0
-EvenColumns d tall ys nx ny far =
-    (i j : ℕ) → i < nx → j + 1 < ny → get_or tall (cell i j) 0 ≡ 0 → Level far (get_or d (cell i j) 0) (get_or d (cell i (j + 1)) 0) (width_of ys j)
+abbrev pub EvenRows : (d flat xs : List ℕ) (nx ny far : ℕ) → Type 0
+EvenRows d flat xs nx ny far = (j : ℕ) → j < ny → LevelRow d flat xs nx far j
+
+-- of the upright ways from row j to the next; from the first `slabs` rows
+unfoldable pub UprightRow : (d tall ys : List ℕ) (nx far j : ℕ) → Type 0
+UprightRow d tall ys nx far j =
+    (i : ℕ) → i < nx → get_or tall (cell i j) 0 ≡ 0 → Level far (get_or d (cell i j) 0) (get_or d (cell i (j + 1)) 0) (width_of ys j)
+
+abbrev pub EvenColumns : (d tall ys : List ℕ) (nx slabs far : ℕ) → Type 0
+EvenColumns d tall ys nx slabs far = (j : ℕ) → j < slabs → UprightRow d tall ys nx far j
 
 unfoldable pub Even : Map → List ℕ → ℕ → Type 0
 Even m d far = (i j i' j' w : ℕ) → Way m i j i' j' w → min (get_or d (cell i j) 0) far ≤ get_or d (cell i' j') 0 + w
@@ -62,12 +56,12 @@ Even m d far = (i j i' j' w : ℕ) → Way m i j i' j' w → min (get_or d (cell
 -- ---- both axes
 
 pub even_both : (m : Map) (d : List ℕ) (far : ℕ) → EvenRows d m.flat m.xs m.nx m.ny far
-    → EvenColumns d m.tall m.ys m.nx m.ny far → Even m d far
-unfolding Even EvenRows EvenColumns
-even_both m d far x y i j i' j' w (east p q r) = (x i j p q r).1
-even_both m d far x y i j i' j' w (west p q r) = (x i' j' p q r).0
-even_both m d far x y i j i' j' w (north p q r) = (y i j p q r).1
-even_both m d far x y i j i' j' w (south p q r) = (y i' j' p q r).0
+    → EvenColumns d m.tall m.ys m.nx (m.ny - 1) far → Even m d far
+unfolding Even LevelRow UprightRow
+even_both m d far x y i j i' j' w (east p q r) = (x j q i p r).1
+even_both m d far x y i j i' j' w (west p q r) = (x j' q i' p r).0
+even_both m d far x y i j i' j' w (north p q r) = (y j (omega arith) i p r).1
+even_both m d far x y i j i' j' w (south p q r) = (y j' (omega arith) i' p r).0
 
 -- ---- a row, way by way
 
@@ -77,32 +71,27 @@ both true b h = (refl, h)
 both false b h = absurd (false≢true h)
 
 module _ (d shut widths : List ℕ) (low apart far : ℕ) where
-  pub row_start : If true (EvenRow d shut widths low apart 0 far)
+  pub row_start : {even : Bool} → even ≡ true → EvenRow d shut widths low apart 0 far
   unfolding EvenRow
-  row_start = record { so = λ r k h. absurd (omega arith) }
-
-  pub row_end : (k n : ℕ) (even : Bool) → k ≡ n → If even (EvenRow d shut widths low apart k far) → If even (EvenRow d shut widths low apart n far)
-  row_end k n even e = subst (λ j. If even (EvenRow d shut widths low apart j far)) e
+  row_start r k h = absurd (omega arith)
 
   -- the way k is looked at, from x and y, the numbers of its high and its low end cut off
   pub row_more : (k x y w : ℕ) (even : Bool) → x ≡ min (get_or d (low + apart + k) 0) far → y ≡ min (get_or d (low + k) 0) far
-      → w ≡ cost_of (get_or shut (low + k) 0) (get_or widths k 0) → If even (EvenRow d shut widths low apart k far)
-      → If ((even && leb x (get_or d (low + k) 0 + w)) && leb y (get_or d (low + apart + k) 0 + w)) (EvenRow d shut widths low apart (k + 1) far)
+      → w ≡ cost_of (get_or shut (low + k) 0) (get_or widths k 0) → (even ≡ true → EvenRow d shut widths low apart k far)
+      → ((even && leb x (get_or d (low + k) 0 + w)) && leb y (get_or d (low + apart + k) 0 + w)) ≡ true → EvenRow d shut widths low apart (k + 1) far
   unfolding EvenRow
-  row_more k x y w even ex ey ew before = record {
-    so = λ r i h f.
-        let o = both (even && leb x (get_or d (low + k) 0 + w)) (leb y (get_or d (low + apart + k) 0 + w)) r in
-        let p = both even (leb x (get_or d (low + k) 0 + w)) o.0 in
-        elim (dec_lt i k) [
-          | yes q ↦ before.so p.0 i q f
-          | no q ↦
-              let z : k ≡ i = omega arith in
-              let a = leb-true x (get_or d (low + k) 0 + w) p.1 in
-              let b = leb-true y (get_or d (low + apart + k) 0 + w) o.1 in
-              subst (λ j. get_or shut (low + j) 0 ≡ 0 → Level far (get_or d (low + j) 0) (get_or d (low + apart + j) 0) (get_or widths j 0)) z
-              (λ g. let c : w ≡ get_or widths k 0 = ew ∙ (simp (eq-eqb _ _ g)) in (omega (arith, a, ex, c), omega (arith, b, ey, c))) f
-        ];
-  }
+  row_more k x y w even ex ey ew before r i h f =
+      let o = both (even && leb x (get_or d (low + k) 0 + w)) (leb y (get_or d (low + apart + k) 0 + w)) r in
+      let p = both even (leb x (get_or d (low + k) 0 + w)) o.0 in
+      elim (dec_lt i k) [
+        | yes q ↦ before p.0 i q f
+        | no q ↦
+            let z : k ≡ i = omega arith in
+            let a = leb-true x (get_or d (low + k) 0 + w) p.1 in
+            let b = leb-true y (get_or d (low + apart + k) 0 + w) o.1 in
+            subst (λ j. get_or shut (low + j) 0 ≡ 0 → Level far (get_or d (low + j) 0) (get_or d (low + apart + j) 0) (get_or widths j 0)) z
+            (λ g. let c : w ≡ get_or widths k 0 = ew ∙ (simp (eq-eqb _ _ g)) in (omega (arith, a, ex, c), omega (arith, b, ey, c))) f
+      ]
 
 -- ---- the widths, one by one
 
@@ -135,51 +124,25 @@ pub slim_alike : (at : List ℕ) (j n slabs v : ℕ) → Widths at slabs → j <
 unfolding Slim
 slim_alike at j n slabs v r h few e k q = omega (arith, e, r.top (j + 1) (omega arith), get_or-replicate 96 k v 0 (omega arith))
 
--- ---- the rows, one by one
+-- ---- a row of level ways, a row of upright ones, and what holds of each row
 
-module _ (d flat xs : List ℕ) (nx far : ℕ) where
-  pub rows_start : EvenRows d flat xs nx 0 far
-  unfolding EvenRows
-  rows_start i j h k = absurd (omega arith)
+pub each_below : (P : ℕ → Type 0) (n : ℕ) → AllWithin P (range_with_len 0 n) 0 (length (range_with_len 0 n)) → (j : ℕ) → j < n → P j
+each_below P n a j h =
+    let e : get_or (range_with_len 0 n) j 0 ≡ j = omega (arith, get_or-range_with_len 0 n j 0 h) in
+    subst P e (a j 0 (omega arith) (rw (length-range_with_len 0 n) h))
 
-  pub rows_more : (j : ℕ) (out : List ℕ) → WidthsOf xs nx out → EvenRows d flat xs nx j far
-      → EvenRow d flat out (j * 96) 1 (nx - 1) far → EvenRows d flat xs nx (j + 1) far
-  unfolding EvenRows EvenRow
-  rows_more j out w before row i k h q f =
-      elim (dec_lt k j) [
-        | yes p ↦ before i k h p f
-        | no p ↦
-            let z : j ≡ k = omega arith in
-            let a : j * 96 + i ≡ cell i j = omega arith in
-            let b : j * 96 + 1 + i ≡ cell (i + 1) j = omega arith in
-            subst (λ y. get_or flat (cell i y) 0 ≡ 0 → Level far (get_or d (cell i y) 0) (get_or d (cell (i + 1) y) 0) (width_of xs i)) z
-            (rw (a, b, w.each i h) at (row i (omega arith))) f
-      ]
+pub level_row : (d flat xs out : List ℕ) (nx far j : ℕ) → WidthsOf xs nx out → EvenRow d flat out (j * 96) 1 (nx - 1) far → LevelRow d flat xs nx far j
+unfolding LevelRow EvenRow
+level_row d flat xs out nx far j w row i h =
+    let a : j * 96 + i ≡ cell i j = omega arith in
+    let b : j * 96 + 1 + i ≡ cell (i + 1) j = omega arith in
+    rw (a, b, w.each i h) at (row i (omega arith))
 
-  pub rows_end : (j ny : ℕ) → ny ≤ j → EvenRows d flat xs nx j far → EvenRows d flat xs nx ny far
-  unfolding EvenRows
-  rows_end j ny h r i k p q = r i k p (omega arith)
-
-module _ (d tall ys : List ℕ) (nx far : ℕ) where
-  pub columns_start : EvenColumns d tall ys nx 1 far
-  unfolding EvenColumns
-  columns_start i j h k = absurd (omega arith)
-
-  pub columns_more : (j v : ℕ) → nx ≤ 96 → v ≡ width_of ys j → EvenColumns d tall ys nx (j + 1) far
-      → EvenRow d tall (replicate 96 v) (j * 96) 96 nx far → EvenColumns d tall ys nx (j + 1 + 1) far
-  unfolding EvenColumns EvenRow
-  columns_more j v few e before row i k h q f =
-      elim (dec_lt k j) [
-        | yes p ↦ before i k h (omega arith) f
-        | no p ↦
-            let z : j ≡ k = omega arith in
-            let a : j * 96 + i ≡ cell i j = omega arith in
-            let b : j * 96 + 96 + i ≡ cell i (j + 1) = omega arith in
-            let w : get_or (replicate 96 v) i 0 ≡ width_of ys j = get_or-replicate 96 i v 0 (omega arith) ∙ e in
-            subst (λ y. get_or tall (cell i y) 0 ≡ 0 → Level far (get_or d (cell i y) 0) (get_or d (cell i (y + 1)) 0) (width_of ys y)) z
-            (rw (a, b, w) at (row i h)) f
-      ]
-
-  pub columns_end : (j ny : ℕ) → ny ≤ j → EvenColumns d tall ys nx j far → EvenColumns d tall ys nx ny far
-  unfolding EvenColumns
-  columns_end j ny h r i k p q = r i k p (omega arith)
+pub upright_row : (d tall ys : List ℕ) (nx far j v : ℕ) → nx ≤ 96 → v ≡ width_of ys j → EvenRow d tall (replicate 96 v) (j * 96) 96 nx far
+    → UprightRow d tall ys nx far j
+unfolding UprightRow EvenRow
+upright_row d tall ys nx far j v few e row i h =
+    let a : j * 96 + i ≡ cell i j = omega arith in
+    let b : j * 96 + 96 + i ≡ cell i (j + 1) = omega arith in
+    let w : get_or (replicate 96 v) i 0 ≡ width_of ys j = get_or-replicate 96 i v 0 (omega arith) ∙ e in
+    rw (a, b, w) at (row i h)

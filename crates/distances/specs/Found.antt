@@ -2,15 +2,15 @@
 -- Assumes nothing.
 use Rattle.std.specs.Prelude.{ℕ, ◌+◌, ◌-◌, ◌*◌, ◌≤◌, ◌<◌, min, ◌≡◌, Bool, List, set}
 use native.Mathlib.Omega.{arith}
-use Rattle.std.proofs.Common.{sym, subst, ◌∙◌}
+use Rattle.std.proofs.Common.{subst, ◌∙◌}
 use Rattle.std.proofs.Math.Bool.{true, false}
 use Rattle.std.proofs.Math.ListN.{get_or}
 use Rattle.distances.specs.declared.Lines.{Lines}
 use Rattle.distances.specs.Lower.{none, Table, Done, Chain, same}
-use Rattle.distances.specs.Sweep.{Widths, LinesFit, Across, Still}
+use Rattle.distances.specs.Sweep.{Widths, Across, Still}
 use Rattle.distances.specs.Sweeping.{chain_map}
 use Rattle.distances.specs.Settle.{Side, side, Calm, Either, on_x, on_y, Settles}
-use Rattle.distances.specs.Ways.{cell, Map, map, Way, east, west, north, south, far_of, Distances}
+use Rattle.distances.specs.Ways.{cell, Map, Way, east, west, north, south, far_of, Distances}
 use Rattle.distances.specs.Reached.{Lowering, Good, MapFits, reached, reached_few, way_in, good_chain}
 use Rattle.distances.specs.Even.{Even}
 use Rattle.distances.specs.Cut.{CutTo, cut_falls}
@@ -103,33 +103,14 @@ map_fits m hx hy x y = record { nx_few = hx; ny_few = hy; wide = wide }
     wide i j i' j' w (north {j = k} p q r) = omega (arith, y.rise k (omega arith), y.top (k + 1) (omega arith))
     wide i j i' j' w (south {j = k} p q r) = omega (arith, y.rise k (omega arith), y.top (k + 1) (omega arith))
 
-pub x_fits : (nx ny : ℕ) → nx ≤ 96 → ny ≤ 96 → LinesFit (x_lines nx ny)
-x_fits nx ny hx hy = record {
-  slabs_few = omega arith;
-  along_few = omega arith;
-  step_few = omega arith;
-  count_few = hy;
-  lines = λ i h. record { place = λ k q. omega arith };
-}
-
-pub y_fits : (nx ny : ℕ) → nx ≤ 96 → ny ≤ 96 → LinesFit (y_lines nx ny)
-y_fits nx ny hx hy = record {
-  slabs_few = omega arith;
-  along_few = omega arith;
-  step_few = omega arith;
-  count_few = hx;
-  lines = λ i h. record { place = λ k q. omega arith };
-}
-
--- the lines of both axes, for these tracks
-pub record Ruled (x y : Lines) (xs ys : List ℕ) : Type 0 where
-  pub nx_some : 1 ≤ y.count
-  pub nx_few : y.count ≤ 96
-  pub ny_few : x.count ≤ 96
-  pub x_is : x ≡ x_lines y.count x.count
-  pub y_is : y ≡ y_lines y.count x.count
-  pub wide_x : Widths xs (y.count - 1)
-  pub wide_y : Widths ys (x.count - 1)
+-- of each axis at least one track and at most 96, rising
+pub record Ruled (m : Map) : Type 0 where
+  pub nx_some : 1 ≤ m.nx
+  pub ny_some : 1 ≤ m.ny
+  pub nx_few : m.nx ≤ 96
+  pub ny_few : m.ny ≤ 96
+  pub wide_x : Widths m.xs (m.nx - 1)
+  pub wide_y : Widths m.ys (m.ny - 1)
 
 -- changes of the table, until it is even as far as s
 pub record Completes (m : Map) (s : ℕ) (d e : List ℕ) : Type 0 where
@@ -146,27 +127,11 @@ pub calm_even : (m : Map) (d : List ℕ) (far : ℕ) → Calm (x_side m) d → C
 unfolding Even
 calm_even m d far x y i j i' j' w way = omega (arith, calm_near m d x y i j i' j' w way)
 
-module _ (x y : Lines) (xs ys flat tall : List ℕ) (r : Ruled x y xs ys) where
-  abbrev ruled : Map
-  ruled = map xs y.count ys x.count flat tall
-
-  pub x_ruled : LinesFit x
-  x_ruled = subst LinesFit (sym r.x_is) (x_fits y.count x.count r.nx_few r.ny_few)
-
-  pub y_ruled : LinesFit y
-  y_ruled = subst LinesFit (sym r.y_is) (y_fits y.count x.count r.nx_few r.ny_few)
-
-  pub x_widths : Widths xs x.slabs
-  x_widths = subst (λ l. Widths xs l.slabs) (sym r.x_is) r.wide_x
-
-  pub y_widths : Widths ys y.slabs
-  y_widths = subst (λ l. Widths ys l.slabs) (sym r.y_is) r.wide_y
-
-  -- settled, it is even
-  pub completes_settled : (s : ℕ) (d e : List ℕ) → Settles (side flat xs x) (side tall ys y) d e → Completes ruled s d e
-  completes_settled s d e t =
-      let on = subst (λ l. Settles (x_side ruled) (side tall ys l) d e) r.y_is (subst (λ l. Settles (side flat xs l) (side tall ys y) d e) r.x_is t) in
-      record { table = on.table; chain = on.chain; even = calm_even ruled e _ on.calm_x on.calm_y }
+-- settled, it is even
+pub completes_settled : (m : Map) (s : ℕ) (d e : List ℕ) {x y : Side} → x ≡ x_side m → y ≡ y_side m → Settles x y d e → Completes m s d e
+completes_settled m s d e p q t =
+    let on = rw (p, q) at t in
+    record { table = on.table; chain = on.chain; even = calm_even m e _ on.calm_x on.calm_y }
 
 -- and found even it stays
 pub completes_even : (m : Map) (s far : ℕ) (d : List ℕ) → Table d → far ≡ far_of d s → Even m d far → Completes m s d d

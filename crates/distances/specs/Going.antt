@@ -1,8 +1,7 @@
 -- What is known on the way along a line: one law for each turn of the loop.
 -- Assumes nothing.
 use Rattle.std.specs.Prelude.{ℕ, zero, suc, ◌+◌, ◌*◌, ◌≤◌, ◌<◌, refl, Bool, true, false, cond, List, [], ◌∷◌, length, set}
-use Rattle.std.proofs.Common.{suc-mul, add-one, arith, sym, ap, ◌∙◌, ⊎_elim, length-set, eq-eqb, ne_eqb}
-use Rattle.std.proofs.Math.Nat.{zero-mul}
+use Rattle.std.proofs.Common.{arith, sym, ap, ◌∙◌, ⊎_elim, length-set, eq-eqb, ne_eqb}
 use Rattle.std.proofs.Math.Path.{◌≡◌, subst}
 use Rattle.std.proofs.Math.ListN.{get_or}
 use borrow.Author.Count.{below_more}
@@ -44,32 +43,18 @@ cost_free s width e = ap (λ b. cond b width none) (eq-eqb s 0 e)
 cost_shut : (s width : ℕ) → ¬ (s ≡ 0) → cost_of s width ≡ none
 cost_shut s width n = ap (λ b. cond b width none) (ne_eqb s 0 n)
 
-pub cost_small : (s width : ℕ) → width ≤ none → cost_of s width ≤ none
-cost_small s width h = ⊎_elim (λ c. rw (cost_free s width c.0) h) (λ c. rw (cost_shut s width c.0) (omega arith)) (eq_cases s 0)
-
 -- ---- on the way
 
-pub record Going (d₀ d shut : List ℕ) (from to edge step count width : ℕ) (changed : Bool) (at k : ℕ) : Type 0 where
-  pub place : at ≡ k * step
-  pub upto : k ≤ count
+pub record Going (d₀ d shut : List ℕ) (from to edge step count width : ℕ) (changed : Bool) (k : ℕ) : Type 0 where
   pub table : Table d
   pub chain : Chain (Change shut from to edge step count width) d₀ d
   pub kept : changed ≡ false → (d ≡ d₀) × Done shut from to edge step count width d k
   pub fell : changed ≡ true → total d < total d₀
 
-pub next : (k at step : ℕ) → at ≡ k * step → at + step ≡ (k + 1) * step
-next k at step e = omega (arith, subst (λ j. j * step ≡ k * step + step) (sym (add-one k)) (suc-mul k step))
-
--- a place of the line, counted by `at`
-pub spot : (from step count at k : ℕ) → Inside from step count → at ≡ k * step → k < count → from + at < 9216
-spot from step count at k i e h = rw e (i.place k h)
-
 module _ (d₀ shut : List ℕ) (from to edge step count width : ℕ) where
-  pub going_first : Table d₀ → Going d₀ d₀ shut from to edge step count width false 0 0
+  pub going_first : Table d₀ → Going d₀ d₀ shut from to edge step count width false 0
   unfolding Done
   going_first s = record {
-    place = omega (arith, zero-mul step);
-    upto = omega arith;
     table = s;
     chain = same;
     kept = λ e. (refl, λ k h. absurd (omega arith));
@@ -77,13 +62,11 @@ module _ (d₀ shut : List ℕ) (from to edge step count width : ℕ) where
   }
 
   -- the number stays: it is not more than by the way across
-  pub going_skip : (d : List ℕ) (changed : Bool) (at k : ℕ) → Going d₀ d shut from to edge step count width changed at k → k < count
-      → get_or d (to + at) 0 ≤ get_or d (from + at) 0 + cost_of (get_or shut (edge + at) 0) width
-      → Going d₀ d shut from to edge step count width changed (at + step) (k + 1)
+  pub going_skip : (d : List ℕ) (changed : Bool) (k : ℕ) → Going d₀ d shut from to edge step count width changed k
+      → get_or d (to + k * step) 0 ≤ get_or d (from + k * step) 0 + cost_of (get_or shut (edge + k * step) 0) width
+      → Going d₀ d shut from to edge step count width changed (k + 1)
   unfolding Done
-  going_skip d changed at k g on h = record {
-    place = next k at step g.place;
-    upto = omega arith;
+  going_skip d changed k g h = record {
     table = g.table;
     chain = g.chain;
     kept = λ e. ((g.kept e).0, below_more _ k (g.kept e).1 here);
@@ -91,55 +74,48 @@ module _ (d₀ shut : List ℕ) (from to edge step count width : ℕ) where
   }
     where
       here : get_or shut (edge + k * step) 0 ≡ 0 → get_or d (to + k * step) 0 ≤ get_or d (from + k * step) 0 + width
-      here f =
-          let h' : get_or d (to + k * step) 0 ≤ get_or d (from + k * step) 0 + cost_of (get_or shut (edge + k * step) 0) width
-          = subst (λ a. get_or d (to + a) 0 ≤ get_or d (from + a) 0 + cost_of (get_or shut (edge + a) 0) width) g.place h in
-          omega (arith, h', cost_free (get_or shut (edge + k * step) 0) width f)
+      here f = omega (arith, h, cost_free (get_or shut (edge + k * step) 0) width f)
 
   -- the number is lowered: then the way across is not shut
   free_there : (d : List ℕ) (a b s : ℕ) → Table d → get_or d a 0 + cost_of s width < get_or d b 0 → s ≡ 0
   free_there d a b s sm h =
       ⊎_elim (λ c. c.0) (λ c. absurd (omega (arith, sm.each b, cost_shut s width c.0))) (eq_cases s 0)
 
-  pub lowers : (d : List ℕ) (at k : ℕ) → at ≡ k * step → Table d → k < count
-      → get_or d (from + at) 0 + cost_of (get_or shut (edge + at) 0) width < get_or d (to + at) 0
-      → Change shut from to edge step count width d (set d (to + at) (get_or d (from + at) 0 + cost_of (get_or shut (edge + at) 0) width))
-  lowers d at k e sm on h =
-      let f : get_or shut (edge + at) 0 ≡ 0 = free_there d (from + at) (to + at) (get_or shut (edge + at) 0) sm h in
-      let c : cost_of (get_or shut (edge + at) 0) width ≡ width = cost_free (get_or shut (edge + at) 0) width f in
-      subst (λ a. Change shut from to edge step count width d (set d (to + at) (get_or d (from + at) 0 + a))) (sym c) (record {
+  pub lowers : (d : List ℕ) (k : ℕ) → Table d → k < count
+      → get_or d (from + k * step) 0 + cost_of (get_or shut (edge + k * step) 0) width < get_or d (to + k * step) 0
+      → Change shut from to edge step count width d (set d (to + k * step) (get_or d (from + k * step) 0 + cost_of (get_or shut (edge + k * step) 0) width))
+  lowers d k sm on h =
+      let f : get_or shut (edge + k * step) 0 ≡ 0 = free_there d (from + k * step) (to + k * step) (get_or shut (edge + k * step) 0) sm h in
+      let c : cost_of (get_or shut (edge + k * step) 0) width ≡ width = cost_free (get_or shut (edge + k * step) 0) width f in
+      subst (λ a. Change shut from to edge step count width d (set d (to + k * step) (get_or d (from + k * step) 0 + a))) (sym c) (record {
         k = k;
         on = on;
-        free = rw e at f;
-        less = rw e at (let l : get_or d (from + at) 0 + width < get_or d (to + at) 0 = omega (arith, h, c) in l);
-        now = rw e refl;
+        free = f;
+        less = omega (arith, h, c);
+        now = refl;
       })
 
-  pub going_write : (d : List ℕ) (changed : Bool) (at k : ℕ) → Going d₀ d shut from to edge step count width changed at k → k < count
-      → Inside to step count
-      → get_or d (from + at) 0 + cost_of (get_or shut (edge + at) 0) width < get_or d (to + at) 0
-      → Going d₀ (set d (to + at) (get_or d (from + at) 0 + cost_of (get_or shut (edge + at) 0) width)) shut from to edge step count width true (at + step) (k + 1)
-  going_write d changed at k g on inside h =
-      let v : ℕ = get_or d (from + at) 0 + cost_of (get_or shut (edge + at) 0) width in
-      let c = lowers d at k g.place g.table on h in
-      let t : total (set d (to + at) v) < total d = change_total shut from to edge step count width d _ g.table.long inside c in
+  pub going_write : (d : List ℕ) (changed : Bool) (k : ℕ) → Going d₀ d shut from to edge step count width changed k → k < count → Inside to step count
+      → get_or d (from + k * step) 0 + cost_of (get_or shut (edge + k * step) 0) width < get_or d (to + k * step) 0
+      → Going d₀ (set d (to + k * step) (get_or d (from + k * step) 0 + cost_of (get_or shut (edge + k * step) 0) width))
+      shut from to edge step count width true (k + 1)
+  going_write d changed k g on inside h =
+      let v : ℕ = get_or d (from + k * step) 0 + cost_of (get_or shut (edge + k * step) 0) width in
+      let c = lowers d k g.table on h in
+      let t : total (set d (to + k * step) v) < total d = change_total shut from to edge step count width d _ g.table.long inside c in
       record {
-        place = next k at step g.place;
-        upto = omega arith;
-        table = less_table d (to + at) v g.table h;
+        table = less_table d (to + k * step) v g.table h;
         chain = more g.chain c;
         kept = λ e. absurd (let z : ◌≡◌ {A = ℕ} 0 1 = cc in omega arith);
         fell = λ e. fallen changed g.kept g.fell t;
       }
     where
       fallen : (b : Bool) → (b ≡ false → (d ≡ d₀) × Done shut from to edge step count width d k) → (b ≡ true → total d < total d₀)
-          → total (set d (to + at) (get_or d (from + at) 0 + cost_of (get_or shut (edge + at) 0) width)) < total d
-          → total (set d (to + at) (get_or d (from + at) 0 + cost_of (get_or shut (edge + at) 0) width)) < total d₀
+          → total (set d (to + k * step) (get_or d (from + k * step) 0 + cost_of (get_or shut (edge + k * step) 0) width)) < total d
+          → total (set d (to + k * step) (get_or d (from + k * step) 0 + cost_of (get_or shut (edge + k * step) 0) width)) < total d₀
       fallen true p q t = omega (arith, q refl, t)
       fallen false p q t = omega (arith, ap total (p refl).0, t)
 
-  pub going_end : (d : List ℕ) (changed : Bool) (at k : ℕ) → Going d₀ d shut from to edge step count width changed at k → count ≤ k
+  pub going_end : (d : List ℕ) (changed : Bool) (k : ℕ) → Going d₀ d shut from to edge step count width changed k → k ≡ count
       → Lowered d₀ d shut from to edge step count width changed
-  going_end d changed at k g h =
-      let e : k ≡ count = omega (arith, g.upto) in
-      record { table = g.table; chain = g.chain; kept = rw e at g.kept; fell = g.fell }
+  going_end d changed k g e = record { table = g.table; chain = g.chain; kept = rw e at g.kept; fell = g.fell }

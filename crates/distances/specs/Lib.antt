@@ -4,6 +4,7 @@ pub mod Sweep
 pub mod Sweeping
 pub mod Settle
 pub mod Settling
+pub mod Axis
 pub mod Ways
 pub mod Reached
 pub mod Found

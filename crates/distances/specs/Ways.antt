@@ -1,6 +1,7 @@
 -- What a table of distances is: no word of how it was found.
 -- Assumes nothing.
 use Rattle.std.specs.Prelude.{ℕ, ◌+◌, ◌-◌, ◌*◌, ◌≤◌, ◌<◌, min, ◌≡◌, List, ◌⊎◌, length, get_or}
+use Rattle.tracks.specs.declared.Map as held
 use Rattle.distances.specs.Lower.{none}
 
 -- the place of the crossing of track i and track j
@@ -18,6 +19,10 @@ pub record Map : Type 0 where
 
 abbrev pub map : List ℕ → ℕ → List ℕ → ℕ → List ℕ → List ℕ → Map
 map xs nx ys ny flat tall = record { xs = xs; nx = nx; ys = ys; ny = ny; flat = flat; tall = tall }
+
+-- as the struct holds it
+abbrev pub map_of : held.Map → Map
+map_of m = map m.x.at m.x.count m.y.at m.y.count m.flat m.tall
 
 -- an open way of that width from the crossing (i, j) to its neighbour (i', j')
 pub data Way (m : Map) : ℕ → ℕ → ℕ → ℕ → ℕ → Type 0 where

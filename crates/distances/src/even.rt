@@ -1,15 +1,15 @@
 // Whether a table is even: no open way lets one end be lowered, below a bound, by way of the other. Nothing is written.
 //
 // Rows are taken whole, both axes alike, so that the compiler may take several ways at once.
-ghost use Rattle.std.specs.Prelude.{◌≡◌, ◌+◌, ◌-◌, ◌≤◌, ◌<◌};
-ghost use lib.ListN.{length};
+ghost use Rattle.std.specs.Prelude.{◌≡◌, ◌+◌, ◌-◌, ◌≤◌, ◌<◌, true, replicate};
 ghost use Rattle.distances.specs.Lower.{Table};
 ghost use Rattle.distances.specs.Sweep.{Widths};
-ghost use Rattle.distances.specs.Ways.{map};
-ghost use Rattle.distances.specs.Even.{If, Slim, WidthsOf, EvenRow, EvenRows, EvenColumns, Even};
+ghost use Rattle.distances.specs.Ways.{map_of};
+ghost use Rattle.distances.specs.Found.{Ruled};
+ghost use Rattle.distances.specs.Even.{Slim, WidthsOf, EvenRow, LevelRow, EvenRows, UprightRow, EvenColumns, Even};
 
-use crate::cut::lesser;
 use crate::{cost, width};
+use tracks::Map;
 
 // The widths of the slabs between n tracks.
 fn widths(at: &[u16; 96], n: usize) -> [u32; 96]
@@ -17,103 +17,95 @@ fn widths(at: &[u16; 96], n: usize) -> [u32; 96]
     ensures { WidthsOf at.now n result }
 {
     let mut out = [0u32; 96];
-    let mut k: usize = 0;
-    while k + 1 < n {
+    for k in 0..n - 1 {
         out[k] = width(at, k);
-        k += 1;
     }
     out
 }
 
 // One width for every way of a row.
 fn alike(w: u32) -> [u32; 96]
-    ensures { result ≡ lib.ListN.replicate 96 w }
+    ensures { result ≡ replicate 96 w }
 {
     [w; 96]
 }
 
-// Of a row of n ways: their low ends stand from `low` on, their high ends `apart` further.
-fn row(
-    d: &[u32; 9216],
-    shut: &[u8; 9216],
-    widths: &[u32; 96],
-    low: usize,
-    apart: usize,
-    n: usize,
-    far: u32,
-) -> bool
-    requires { Table d.now × (n ≤ 96) × (low + apart + n ≤ 9216) × Slim widths.now n }
-    ensures { If result (EvenRow d.now shut.now widths.now low apart n far) }
+// Ways that are looked at together: their low ends stand from `low` on, one after the other, their high ends `apart` further.
+#[derive(Clone, Copy)]
+struct Ways {
+    pub low: usize,
+    pub apart: usize,
+    pub count: usize,
+}
+
+// Whether a row of ways is even, looked at to its end: there is no early exit.
+#[tactic(auto, using(crate::specs::Even::row_start, crate::specs::Even::slim_at, crate::specs::Even::row_more))]
+fn row(d: &[u32; 9216], shut: &[u8; 9216], widths: &[u32; 96], ways: Ways, far: u32) -> bool
+    requires { Table d.now × (ways.count ≤ 96) × (ways.low + ways.apart + ways.count ≤ 9216) × Slim widths.now ways.count }
+    ensures { result ≡ true → EvenRow d.now shut.now widths.now ways.low ways.apart ways.count far }
 {
     let mut even = true;
-    let mut k: usize = 0;
-    while k < n {
-        let a = d[low + k];
-        let b = d[low + apart + k];
-        let w = cost(shut[low + k], widths[k]);
-        let up = lesser(b, far) <= a + w;
-        let down = lesser(a, far) <= b + w;
+    for k in 0..ways.count {
+        let a = d[ways.low + k];
+        let b = d[ways.low + ways.apart + k];
+        let w = cost(shut[ways.low + k], widths[k]);
+        let up = b.min(far) <= a + w;
+        let down = a.min(far) <= b + w;
         even = even & up & down;
-        k += 1;
     }
     even
 }
 
-// The level ways, row by row.
-fn rows(d: &[u32; 9216], flat: &[u8; 9216], xs: &[u16; 96], nx: usize, ny: usize, far: u32) -> bool
-    requires { Table d.now × (1 ≤ nx) × (nx ≤ 96) × (ny ≤ 96) × Widths xs.now (nx - 1) }
-    ensures { If result (EvenRows d.now flat.now xs.now nx ny far) }
+// Whether the level ways of row j, whose widths are these, are even.
+#[tactic(auto, using(crate::specs::Even::slim_widths, crate::specs::Even::level_row))]
+fn level_row(d: &[u32; 9216], map: &Map, widths: &[u32; 96], j: usize, far: u32) -> bool
+    requires { Table d.now × Ruled (map_of map.now) × WidthsOf map.now.x.at map.now.x.count widths.now × (j < map.now.y.count) }
+    ensures { result ≡ true → LevelRow d.now map.now.flat map.now.x.at map.now.x.count far j }
 {
-    let w = widths(xs, nx);
-    let mut j: usize = 0;
-    while j < ny {
-        if !row(d, flat, &w, j * 96, 1, nx - 1, far) {
-            return false;
-        }
-        j += 1;
-    }
-    true
+    let ways = Ways {
+        low: j * 96,
+        apart: 1,
+        count: map.x.count - 1,
+    };
+    row(d, &map.flat, widths, ways, far)
 }
 
-// The upright ways, row by row.
-fn columns(
-    d: &[u32; 9216],
-    tall: &[u8; 9216],
-    ys: &[u16; 96],
-    nx: usize,
-    ny: usize,
-    far: u32,
-) -> bool
-    requires { Table d.now × (nx ≤ 96) × (ny ≤ 96) × Widths ys.now (ny - 1) }
-    ensures { If result (EvenColumns d.now tall.now ys.now nx ny far) }
+// Whether the upright ways from row j to the next are even.
+fn upright_row(d: &[u32; 9216], map: &Map, j: usize, far: u32) -> bool
+    requires { Table d.now × Ruled (map_of map.now) × (j < map.now.y.count - 1) }
+    ensures { result ≡ true → UprightRow d.now map.now.tall map.now.y.at map.now.x.count far j }
 {
-    let mut j: usize = 0;
-    while j + 1 < ny {
-        let w = alike(width(ys, j));
-        if !row(d, tall, &w, j * 96, 96, nx, far) {
-            return false;
-        }
-        j += 1;
-    }
-    true
+    let widths = alike(width(&map.y.at, j));
+    let ways = Ways {
+        low: j * 96,
+        apart: 96,
+        count: map.x.count,
+    };
+    row(d, &map.tall, &widths, ways, far)
 }
 
-// Both axes.
-pub(crate) fn even(
-    d: &[u32; 9216],
-    flat: &[u8; 9216],
-    xs: &[u16; 96],
-    nx: usize,
-    tall: &[u8; 9216],
-    ys: &[u16; 96],
-    ny: usize,
-    far: u32,
-) -> bool
-    requires { Table d.now × (1 ≤ nx) × (nx ≤ 96) × (ny ≤ 96) × Widths xs.now (nx - 1) × Widths ys.now (ny - 1) }
-    ensures { If result (Even (map xs.now nx ys.now ny flat.now tall.now) d.now far) }
+// Whether all level ways are even, row by row.
+fn rows(d: &[u32; 9216], map: &Map, far: u32) -> bool
+    requires { Table d.now × Ruled (map_of map.now) }
+    ensures { result ≡ true → EvenRows d.now map.now.flat map.now.x.at map.now.x.count map.now.y.count far }
 {
-    if !rows(d, flat, xs, nx, ny, far) {
-        return false;
-    }
-    columns(d, tall, ys, nx, ny, far)
+    let widths = widths(&map.x.at, map.x.count);
+    (0..map.y.count).all(|j| level_row(d, map, &widths, j, far))
+}
+
+// Whether all upright ways are even, row by row.
+fn columns(d: &[u32; 9216], map: &Map, far: u32) -> bool
+    requires { Table d.now × Ruled (map_of map.now) }
+    ensures { result ≡ true → EvenColumns d.now map.now.tall map.now.y.at map.now.x.count (map.now.y.count - 1) far }
+{
+    (0..map.y.count - 1).all(|j| upright_row(d, map, j, far))
+}
+
+// Whether the ways of both axes are even.
+#[tactic(auto, using(crate::specs::Even::even_both))]
+pub(crate) fn even(d: &[u32; 9216], map: &Map, far: u32) -> bool
+    requires { Table d.now × Ruled (map_of map.now) }
+    ensures { result ≡ true → Even (map_of map.now) d.now far }
+{
+    rows(d, map, far) && columns(d, map, far)
 }

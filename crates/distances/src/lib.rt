@@ -1,26 +1,30 @@
 // The distance still to go at each crossing: lowered from t on, found even or settled, and cut off where s lies.
 #![tactic(auto)]
 
+mod axis;
 mod cut;
 mod even;
 mod settle;
 mod spread;
 
-ghost use Rattle.std.specs.Prelude.{◌≡◌, get_or};
+ghost use Rattle.std.specs.Prelude.{◌≡◌, ◌-◌, get_or};
 ghost use Prim.Native.Nat.{◌+◌, ◌*◌, ◌<◌, ◌≤◌};
 ghost use Rattle.distances.specs.Lower.{none, cost_of, Table};
-ghost use Rattle.distances.specs.Sweep.{slab_at, width_of, Widths};
-ghost use Rattle.distances.specs.Settle.{Settles};
-ghost use Rattle.distances.specs.Ways.{cell, map, Distances};
+ghost use Rattle.distances.specs.Sweep.{width_of, Widths};
+ghost use Rattle.distances.specs.Ways.{cell, map_of, Distances};
 ghost use Rattle.distances.specs.Start.{Unreached};
-ghost use Rattle.distances.specs.Found.{Ruled, Completes};
+ghost use Rattle.distances.specs.Found.{x_side, y_side, Ruled, Completes};
+ghost use Rattle.distances.specs.Axis.{side_of};
 
+use axis::Axis;
 use cut::{after, cut};
 use even::even;
 use settle::settle;
 use spread::spread;
+use tracks::{At, Map};
 
-// What stands where the search has not come: more than any length.
+// What stands where the search has not come: more than any length. A number and no Option, which would take twice the memory and a second
+// comparison at each step of the search.
 pub const NONE: u32 = 1000000000;
 
 // What a step across a slab of this width costs.
@@ -28,7 +32,7 @@ fn cost(shut: u8, width: u32) -> u32
     requires { width ≤ 30000 }
     ensures { (result ≡ cost_of shut width) × (result ≤ none) }
 {
-    if shut == 0 { width } else { 1000000000 }
+    if shut == 0 { width } else { NONE }
 }
 
 // The lines of one axis: `slabs` + 1 of them, `along` apart, each with `count` crossings, `step` apart.
@@ -40,98 +44,84 @@ struct Lines {
     pub count: usize,
 }
 
-// Which slab comes kth.
-fn slab_at(l: Lines, back: bool, k: usize) -> usize
-    requires { k < l.slabs }
-    ensures { result ≡ slab_at l back k }
-{
-    if back {
-        return l.slabs - 1 - k;
-    }
-    k
-}
-
 // The width of a slab.
 pub fn width(at: &[u16; 96], i: usize) -> u32
     requires { (i < 95) × (get_or at.now i 0 ≤ get_or at.now (i + 1) 0) }
     ensures { result ≡ width_of at.now i }
 {
-    let low = wide(at[i]);
-    let high = wide(at[i + 1]);
+    let low = u32::from(at[i]);
+    let high = u32::from(at[i + 1]);
     high - low
 }
 
-fn wide(x: u16) -> u32
-    ensures { result ≡ x }
+// The upright tracks, and the level ways between them.
+fn x_axis(map: &Map) -> Axis<'_>
+    requires { Ruled (map_of map.now) }
+    ensures { side_of result ≡ x_side (map_of map.now) }
 {
-    x as u32
-}
-
-// Nothing reached.
-fn unreached() -> [u32; 9216]
-    ensures { Unreached result }
-{
-    [1000000000u32; 9216]
-}
-
-// Settles the table, if it is not even as far as the crossing at s.
-fn complete(
-    d: &mut [u32; 9216],
-    flat: &[u8; 9216],
-    xs: &[u16; 96],
-    x: Lines,
-    tall: &[u8; 9216],
-    ys: &[u16; 96],
-    y: Lines,
-    s: usize,
-)
-    requires { Table d.old × Ruled x y xs.now ys.now × (s < 9216) }
-    ensures { Completes (map xs.now y.count ys.now x.count flat.now tall.now) s
-        d.old d.new }
-{
-    let far = after(d[s]);
-    if !even(d, flat, xs, y.count, tall, ys, x.count, far) {
-        settle(d, flat, xs, x, tall, ys, y);
+    Axis {
+        shut: &map.flat,
+        at: &map.x.at,
+        lines: Lines {
+            slabs: map.x.count - 1,
+            along: 1,
+            step: 96,
+            count: map.y.count,
+        },
     }
 }
 
-// The distance still to go to the crossing of track i and track j, from each crossing that is no further than that of track p and track q.
-// For those further on it is one more than for that crossing; NONE where there is no way. `flat` and `tall` mark the level and the
-// upright ways that are shut.
-pub fn distances(
-    flat: &[u8; 9216],
-    xs: &[u16; 96],
-    nx: usize,
-    tall: &[u8; 9216],
-    ys: &[u16; 96],
-    ny: usize,
-    i: usize,
-    j: usize,
-    p: usize,
-    q: usize,
-) -> [u32; 9216]
-    requires { (nx ≤ 96) × (ny ≤ 96) × (i < nx) × (j < ny) × (p < nx) × (q < ny) × Widths xs.now (Prim.Native.Nat.◌-◌ nx 1) ×
-        Widths ys.now (Prim.Native.Nat.◌-◌ ny 1) }
-    ensures { Distances (map xs.now nx ys.now ny flat.now tall.now) i j (cell p q) result }
+// The level tracks, and the upright ways between them.
+fn y_axis(map: &Map) -> Axis<'_>
+    requires { Ruled (map_of map.now) }
+    ensures { side_of result ≡ y_side (map_of map.now) }
 {
-    let mut d = unreached();
-    d[i + j * 96] = 0;
-    let x = Lines {
-        slabs: nx - 1,
-        along: 1,
-        step: 96,
-        count: ny,
-    };
-    let y = Lines {
-        slabs: ny - 1,
-        along: 96,
-        step: 1,
-        count: nx,
-    };
-    let s = p + q * 96;
-    spread(&mut d, flat, xs, x, tall, ys, y, i, j, s);
-    complete(&mut d, flat, xs, x, tall, ys, y, s);
+    Axis {
+        shut: &map.tall,
+        at: &map.y.at,
+        lines: Lines {
+            slabs: map.y.count - 1,
+            along: 96,
+            step: 1,
+            count: map.x.count,
+        },
+    }
+}
+
+// Nothing reached. A table is a plain array, as it is handed out: that none of its numbers is more than NONE stands in the contracts (`Table`).
+#[tactic(auto, using(crate::specs::Start::unreached))]
+fn unreached() -> [u32; 9216]
+    ensures { Unreached result }
+{
+    [NONE; 9216]
+}
+
+// Settles the table, if it is not even as far as the crossing at s.
+fn complete(d: &mut [u32; 9216], map: &Map, x: &Axis, y: &Axis, s: usize)
+    requires { Table d.old × Ruled (map_of map.now) × (s < 9216) × (side_of x.now ≡ x_side (map_of map.now)) × (side_of y.now ≡ y_side (map_of map.now)) }
+    ensures { Completes (map_of map.now) s d.old d.new }
+{
     let far = after(d[s]);
-    cut(&mut d, nx, ny, far);
+    if !even(d, map, far) {
+        settle(d, x, y);
+    }
+}
+
+// The distance still to go to the crossing `to`, from each crossing that is no further than `from`. For those further on it is one more than
+// for that crossing; NONE where there is no way.
+pub fn distances(map: &Map, to: At, from: At) -> [u32; 9216]
+    requires { (map.now.x.count ≤ 96) × (map.now.y.count ≤ 96) × (to.i < map.now.x.count) × (to.j < map.now.y.count) × (from.i < map.now.x.count) ×
+        (from.j < map.now.y.count) × Widths map.now.x.at (map.now.x.count - 1) × Widths map.now.y.at (map.now.y.count - 1) }
+    ensures { Distances (map_of map.now) to.i to.j (cell from.i from.j) result }
+{
+    let x = x_axis(map);
+    let y = y_axis(map);
+    let mut d = unreached();
+    d[to.i + to.j * 96] = 0;
+    let s = from.i + from.j * 96;
+    spread(&mut d, &x, &y, to, s);
+    complete(&mut d, map, &x, &y, s);
+    let far = after(d[s]);
+    cut(&mut d, map.x.count, map.y.count, far);
     d
 }

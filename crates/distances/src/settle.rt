@@ -1,131 +1,68 @@
 // Lowering every line by way of its neighbours, until nothing changes.
-ghost use Rattle.std.specs.Prelude.{◌+◌, ◌*◌, ◌<◌, ◌≤◌};
-ghost use Rattle.distances.specs.Lower.{Table, Inside, Lowered};
-ghost use Rattle.distances.specs.Sweep.{Widths, LinesFit, Slabbed, Swept};
-ghost use Rattle.distances.specs.Settle.{side, Went, Passed, Settles};
+ghost use Rattle.distances.specs.Lower.{Table, Lowered};
+ghost use Rattle.distances.specs.Sweep.{Swept};
+ghost use Rattle.distances.specs.Settle.{Went, Passed, Settles};
+ghost use Rattle.distances.specs.Axis.{side_of};
 
-use crate::{Lines, cost, slab_at, width};
+use crate::axis::{Axis, Slab};
+use crate::cost;
 
-// Lowers each number of the line at `to` by way of its neighbour on the line at `from`, across a slab of this width.
-// Neighbours on a line stand `step` apart; shut[edge + ..] says which of the ways across are blocked.
-fn lower(
-    d: &mut [u32; 9216],
-    shut: &[u8; 9216],
-    from: usize,
-    to: usize,
-    edge: usize,
-    step: usize,
-    count: usize,
-    width: u32,
-) -> bool
-    requires { Table d.old × (width ≤ 30000) × (step ≤ 96) × (count ≤ 96) × Inside from step count × Inside to step count ×
-        Inside edge step count }
-    ensures { Lowered d.old d.new shut.now from to edge step count width result }
+// Lowers each number of a line by way of its neighbour across the slab.
+fn lower(d: &mut [u32; 9216], shut: &[u8; 9216], slab: &Slab) -> bool
+    requires { Table d.old }
+    ensures { let s = slab.now in Lowered d.old d.new shut.now s.from s.to s.edge s.step s.count s.width result }
 {
     let mut changed = false;
-    let mut at: usize = 0;
-    let mut k: usize = 0;
-    while k < count {
-        let near = d[from + at] + cost(shut[edge + at], width);
-        if near < d[to + at] {
-            d[to + at] = near;
+    for k in 0..slab.count {
+        let at = k * slab.step;
+        let near = d[slab.from + at] + cost(shut[slab.edge + at], slab.width);
+        if near < d[slab.to + at] {
+            d[slab.to + at] = near;
             changed = true;
         }
-        at += step;
-        k += 1;
     }
     changed
 }
 
 // Lowers each line by way of its neighbour, one slab after another, forth or back.
-fn sweep(d: &mut [u32; 9216], shut: &[u8; 9216], at: &[u16; 96], l: Lines, back: bool) -> bool
-    requires { Table d.old × LinesFit l × Widths at.now l.slabs }
-    ensures { Swept d.old d.new shut.now at.now l back result }
+fn sweep(d: &mut [u32; 9216], axis: &Axis, back: bool) -> bool
+    requires { Table d.old }
+    ensures { Swept d.old d.new axis.now.shut.now axis.now.at.now axis.now.lines back result }
 {
     let mut changed = false;
-    let mut k: usize = 0;
-    while k < l.slabs {
-        if slab(d, shut, at, l, back, k) {
-            changed = true;
-        }
-        k += 1;
+    for k in 0..axis.lines.slabs {
+        changed |= lower(d, axis.shut, &axis.slab(back, k));
     }
     changed
 }
 
-// One slab of a sweep, the kth on the way.
-fn slab(
-    d: &mut [u32; 9216],
-    shut: &[u8; 9216],
-    at: &[u16; 96],
-    l: Lines,
-    back: bool,
-    k: usize,
-) -> bool
-    requires { Table d.old × LinesFit l × Widths at.now l.slabs × (k < l.slabs) }
-    ensures { Slabbed d.old d.new shut.now at.now l back k result }
-{
-    let i = slab_at(l, back, k);
-    let w = width(at, i);
-    let low = i * l.along;
-    let high = low + l.along;
-    if back {
-        return lower(d, shut, high, low, low, l.step, l.count, w);
-    }
-    lower(d, shut, low, high, low, l.step, l.count, w)
-}
-
 // Lowers all the lines of an axis, forth and back.
-fn both_ways(d: &mut [u32; 9216], shut: &[u8; 9216], at: &[u16; 96], l: Lines) -> bool
-    requires { Table d.old × LinesFit l × Widths at.now l.slabs }
-    ensures { Went (side shut.now at.now l) d.old d.new result }
+fn both_ways(d: &mut [u32; 9216], axis: &Axis) -> bool
+    requires { Table d.old }
+    ensures { Went (side_of axis.now) d.old d.new result }
 {
-    let forth = sweep(d, shut, at, l, false);
-    let back = sweep(d, shut, at, l, true);
-    if forth {
-        return true;
-    }
-    back
+    let forth = sweep(d, axis, false);
+    let back = sweep(d, axis, true);
+    forth || back
 }
 
 // Lowers all the lines of both axes.
-fn pass(
-    d: &mut [u32; 9216],
-    level: &[u8; 9216],
-    xs: &[u16; 96],
-    x: Lines,
-    upright: &[u8; 9216],
-    ys: &[u16; 96],
-    y: Lines,
-) -> bool
-    requires { Table d.old × LinesFit x × Widths xs.now x.slabs × LinesFit y × Widths ys.now y.slabs }
-    ensures { Passed (side level.now xs.now x) (side upright.now ys.now y) d.old
-        d.new result }
+fn pass(d: &mut [u32; 9216], x: &Axis, y: &Axis) -> bool
+    requires { Table d.old }
+    ensures { Passed (side_of x.now) (side_of y.now) d.old d.new result }
 {
-    let a = both_ways(d, level, xs, x);
-    let b = both_ways(d, upright, ys, y);
-    if a {
-        return true;
-    }
-    b
+    let on_x = both_ways(d, x);
+    let on_y = both_ways(d, y);
+    on_x || on_y
 }
 
 // Lowers until nothing changes.
-pub(crate) fn settle(
-    d: &mut [u32; 9216],
-    level: &[u8; 9216],
-    xs: &[u16; 96],
-    x: Lines,
-    upright: &[u8; 9216],
-    ys: &[u16; 96],
-    y: Lines,
-)
-    requires { Table d.old × LinesFit x × Widths xs.now x.slabs × LinesFit y × Widths ys.now y.slabs }
-    ensures { Settles (side level.now xs.now x) (side upright.now ys.now y)
-        d.old d.new }
+pub(crate) fn settle(d: &mut [u32; 9216], x: &Axis, y: &Axis)
+    requires { Table d.old }
+    ensures { Settles (side_of x.now) (side_of y.now) d.old d.new }
 {
     let mut changed = true;
     while changed {
-        changed = pass(d, level, xs, x, upright, ys, y);
+        changed = pass(d, x, y);
     }
 }

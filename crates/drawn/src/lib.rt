@@ -14,26 +14,26 @@ ghost use Rattle.paper.specs.Laws.Says.{Says};
 ghost use Rattle.paper.specs.Laws.Joins.{joined};
 ghost use Rattle.blocks.specs.Flat.{flat, Fits};
 ghost use Rattle.router.specs.Route.{Asked, shortest_of};
-ghost use Rattle.drawn.specs.Drawing.{refused_by, Reached, Over, pins_of};
+ghost use Rattle.drawn.specs.Drawing.{judged_of, Reached, Over, pins_of};
 
 use blocks::{Blocks, of_board};
 use corners::{long, wire_of};
-use paper::{Board, Item, Judged, MOST_CORNERS, Mode, Pins, Size};
+use paper::{Board, Item, Judged, MOST_CORNERS, Mode, Pins, Refusal, Size};
 use places::fault_of;
-use router::{Route, find_wire};
+use router::{Untold, Wire, find_wire};
 use shapes::Fault;
 use soundness::sound;
 
 // ---- the excess
 
 // How long a shortest wire is, whatever its run count.
-fn shortest(route: Route) -> u32
-    ensures { result ≡ shortest_of route }
+fn shortest(found: Result<Wire, Untold>) -> u32
+    ensures { result ≡ shortest_of found }
 {
-    match route {
-        Route::Wire(n, _, _) => n,
-        Route::NoWire => 0,
-        Route::TooManyRuns(n) => n,
+    match found {
+        Ok(wire) => wire.length,
+        Err(Untold::NoWire) => 0,
+        Err(Untold::TooManyRuns(length)) => length,
     }
 }
 
@@ -43,8 +43,7 @@ fn excess(size: Size, held: Blocks, p: Pins, length: u32) -> u32
     ensures { Over (grid_with size.w size.h (joined (flat held))) (source p) (target p) length result }
 {
     let found = find_wire(size, held, p, Mode::Plain);
-    let route = found.route;
-    length - shortest(route)
+    length - shortest(found)
 }
 
 // ---- the whole
@@ -53,23 +52,7 @@ fn excess(size: Size, held: Blocks, p: Pins, length: u32) -> u32
 fn count_fits(n: usize) -> bool
     ensures { Says result ((k : ℕ) × (2 ≤ k) × (k ≤ most_corners) × (n ≡ k + k)) }
 {
-    if n % 2 != 0 {
-        return false;
-    }
-    if n < 4 {
-        return false;
-    }
-    n / 2 <= MOST_CORNERS
-}
-
-fn refused(fault: Fault) -> Judged
-    ensures { result ≡ refused_by fault }
-{
-    Judged {
-        code: fault.code,
-        run: fault.run,
-        excess: 0,
-    }
+    n % 2 == 0 && (2..=MOST_CORNERS).contains(&(n / 2))
 }
 
 // The first corner and the last.
@@ -85,37 +68,57 @@ fn pins_of(item: Item, n: usize) -> Pins
     }
 }
 
+// By how many steps a wire drawn on a well-formed board is longer than a shortest one, or what is wrong with it.
+fn excess_of(board: Board, numbers: &[u16]) -> Result<u32, Fault>
+    requires { WellFormed board }
+    ensures { JudgedOn (layout_of board) numbers.now (judged_of result) }
+{
+    if board.size.w == 0 {
+        return Err(Fault::from(Refusal::NoBounds));
+    }
+    if !count_fits(numbers.len()) {
+        return Err(Fault::from(Refusal::CornerCount));
+    }
+    let item = wire_of(numbers);
+    let n = numbers.len() / 2 - 1;
+    let held = of_board(board, true);
+    fault_of(board.size, held, item, n)?;
+    Ok(excess(board.size, held, pins_of(item, n), long(item, n)))
+}
+
+// In the document's numbers.
+fn told(judged: Result<u32, Fault>) -> Judged
+    ensures { result ≡ judged_of judged }
+{
+    match judged {
+        Ok(excess) => Judged {
+            code: 0,
+            run: 0,
+            excess,
+        },
+        Err(fault) => Judged {
+            code: u8::from(fault.why),
+            run: fault.run,
+            excess: 0,
+        },
+    }
+}
+
 // A wire drawn on a board that is well formed, for callers that keep the board themselves.
 pub fn judge_sound(board: Board, numbers: &[u16]) -> Judged
     requires { WellFormed board }
     ensures { JudgedOn (layout_of board) numbers.now result }
 {
-    if board.size.w == 0 {
-        return refused(Fault { code: 2, run: 0 });
-    }
-    if !count_fits(numbers.len()) {
-        return refused(Fault { code: 22, run: 0 });
-    }
-    let item = wire_of(numbers);
-    let n = numbers.len() / 2 - 1;
-    let held = of_board(board, true);
-    let fault = fault_of(board.size, held, item, n);
-    if fault.code != 0 {
-        return refused(fault);
-    }
-    Judged {
-        code: 0,
-        run: 0,
-        excess: excess(board.size, held, pins_of(item, n), long(item, n)),
-    }
+    told(excess_of(board, numbers))
 }
 
 // A wire drawn on any board, by any numbers.
+#[tactic(auto, using(crate::specs::Laws::Judging::judged_ill, crate::specs::Laws::Judging::judged_well, paper::specs::Laws::Says::said, paper::specs::Laws::Says::said_not))]
 pub fn judge(board: Board, numbers: &[u16]) -> Judged
     ensures { Judges board numbers.now result }
 {
     if sound(board) {
         return judge_sound(board, numbers);
     }
-    refused(Fault { code: 17, run: 0 })
+    told(Err(Fault::from(Refusal::IllFormed)))
 }

@@ -3,9 +3,8 @@
 use Rattle.std.specs.Prelude.{ℕ, ◌+◌, ◌*◌, ◌≤◌, ◌<◌, ◌≡◌, List, ◌⊎◌, length, get_or}
 use Rattle.paper.specs.Grid.{Node, Axis, Block, Hits, Any, edge}
 use Rattle.paper.specs.Laws.Joins.{join_of}
-use Rattle.blocks.specs.declared.Place.{Place}
-use Rattle.edges.specs.declared.Range.{Range}
-use Rattle.edges.specs.declared.Box.{Box}
+use Rattle.blocks.specs.declared.Blocks.{Blocks}
+use Rattle.std.specs.declared.ops.Range.{Range}
 
 -- the place of the crossing of track i and track j
 abbrev pub cell : ℕ → ℕ → ℕ
@@ -17,28 +16,16 @@ pub record Filled (before after : List ℕ) (from to : ℕ) : Type 0 where
   pub marked : (k : ℕ) → from ≤ k → k < to → get_or after k 0 ≡ 1
   pub others : (k : ℕ) → (k < from) ⊎ (to ≤ k) → get_or after k 0 ≡ get_or before k 0
 
-abbrev pub In : Range → Range → ℕ → ℕ → Type 0
-In x y i j = ((x.from ≤ i) × (i < x.to)) × ((y.from ≤ j) × (j < y.to))
+abbrev pub In : Range ℕ → Range ℕ → ℕ → ℕ → Type 0
+In x y i j = ((x.start ≤ i) × (i < x.end)) × ((y.start ≤ j) × (j < y.end))
 
 -- the crossings of both ranges are marked, the others as they were
-pub record Boxed (before after : List ℕ) (x y : Range) : Type 0 where
+pub record Boxed (before after : List ℕ) (x y : Range ℕ) : Type 0 where
   pub long : length after ≡ length before
   pub marked : (i j : ℕ) → i < 96 → In x y i j → get_or after (cell i j) 0 ≡ 1
   pub others : (i j : ℕ) → i < 96 → ¬ (In x y i j) → get_or after (cell i j) 0 ≡ get_or before (cell i j) 0
 
 -- ---- what is marked
-
-abbrev pub block : Box → Block
-block b = record {
-  along_x = record { lo = b.x0; hi = b.x1; c = b.c };
-  along_y = record { lo = b.y0; hi = b.y1; c = b.c };
-}
-
-abbrev pub place_of : Box → Place
-place_of b = record { x0 = b.x0; y0 = b.y0; x1 = b.x1; y1 = b.y1 }
-
-abbrev pub bare_of : Place → Box
-bare_of p = record { x0 = p.x0; y0 = p.y0; x1 = p.x1; y1 = p.y1; c = 0 }
 
 -- block k of the arrays
 unfoldable pub box_at : List ℕ → List ℕ → List ℕ → List ℕ → List ℕ → ℕ → Block
@@ -46,6 +33,9 @@ box_at x0 y0 x1 y1 c k = record {
   along_x = record { lo = get_or x0 k 0; hi = get_or x1 k 0; c = get_or c k 0 };
   along_y = record { lo = get_or y0 k 0; hi = get_or y1 k 0; c = get_or c k 0 };
 }
+
+abbrev pub boxes : Blocks → ℕ → Block
+boxes b = box_at b.x0 b.y0 b.x1 b.y1 b.c
 
 abbrev pub crossing : List ℕ → List ℕ → ℕ → ℕ → Node
 crossing xs ys i j = record { x = get_or xs i 0; y = get_or ys j 0 }

@@ -1,20 +1,21 @@
 -- From ranges and marks to the ways that blocks shut.
 -- Assumes nothing.
 use Rattle.std.specs.Prelude.{ℕ, suc, ◌+◌, ◌≤◌, ◌<◌, ◌≡◌, refl, ◌⊎◌, ◌↔◌, List, [], ◌∷◌, get_or}
-use Rattle.std.proofs.Common.{eq-or-lt_of_le, le_of_suc-le-suc, arith, sym, ap, ap₂, subst, ◌∙◌}
+use Rattle.std.proofs.Common.{eq-or-lt_of_le, le_of_suc-le-suc, arith, sym, ap₂, subst, subst₂, ◌∙◌}
 use Rattle.std.proofs.Math.Decide.{dec_lt, dec_le}
 use Rattle.std.proofs.Math.Logic.{inl, inr, ⊎_elim}
 use Rattle.paper.specs.Grid.{Axis, level, upright, Meets, Block, Hits, Any, step}
 use Rattle.paper.specs.Laws.Joins.{Touch, Share, join_of}
 use Rattle.paper.specs.Laws.Joining.{join_none}
+use Rattle.tracks.specs.declared.Map.{Map}
+use Rattle.blocks.specs.declared.Blocks.{Blocks}
 use Rattle.blocks.specs.declared.Place.{Place}
-use Rattle.seams.specs.declared.Joined.{Joined}
-use Rattle.seams.specs.declared.Joined.TheVariants.{Over, Apart}
-use Rattle.seams.specs.Seaming.{place_box, joined_is}
-use Rattle.edges.specs.declared.Range.{Range}
-use Rattle.edges.specs.declared.Box.{Box}
-use Rattle.edges.specs.Ranges.{Meeting}
-use Rattle.edges.specs.Marks.{cell, In, Boxed, block, place_of, Shuts, SeamShuts, Seam, Added, Blank, Shut, Marked}
+use Rattle.blocks.specs.Flat.{place_at}
+use Rattle.seams.specs.Seaming.{place_box}
+use Rattle.std.specs.declared.ops.Range.{Range}
+use Rattle.edges.specs.Ranges.{Ascending, Meeting}
+use Rattle.edges.specs.Marks.{cell, In, Boxed, box_at, boxes, Shuts, SeamShuts, Seam, Added, Blank, Shut, Marked}
+use Rattle.edges.specs.Maps.{Mapped, Ways, ByBlock, ByRectangle, BySeams, Gains}
 
 -- how far the first unit edge of a way reaches on each axis
 abbrev pub on_x : Axis → ℕ
@@ -32,21 +33,21 @@ unfolding Shuts Hits Meets step
 shuts_iff level b xs ys i j = (λ h. omega arith, λ h. omega arith)
 shuts_iff upright b xs ys i j = (λ h. omega arith, λ h. omega arith)
 
-in_or_out : (x y : Range) (i j : ℕ) → In x y i j ⊎ (¬ (In x y i j))
+in_or_out : (x y : Range ℕ) (i j : ℕ) → In x y i j ⊎ (¬ (In x y i j))
 in_or_out x y i j =
-    elim (dec_le x.from i) [
+    elim (dec_le x.start i) [
       | no h ↦ inr (λ p. h p.0.0)
-      | yes h ↦ elim (dec_lt i x.to) [
+      | yes h ↦ elim (dec_lt i x.end) [
         | no k ↦ inr (λ p. k p.0.1)
-        | yes k ↦ elim (dec_le y.from j) [
+        | yes k ↦ elim (dec_le y.start j) [
           | no m ↦ inr (λ p. m p.1.0)
-          | yes m ↦ elim (dec_lt j y.to) [ no n ↦ inr (λ p. n p.1.1) | yes n ↦ inl ((h, k), (m, n)) ]
+          | yes m ↦ elim (dec_lt j y.end) [ no n ↦ inr (λ p. n p.1.1) | yes n ↦ inl ((h, k), (m, n)) ]
         ]
       ]
     ]
 
 -- the marks of one block
-pub added : (a : Axis) (b : Block) (xs ys d e : List ℕ) (nx ny : ℕ) (x y : Range) → nx ≤ 96
+pub added : (a : Axis) (b : Block) (xs ys d e : List ℕ) (nx ny : ℕ) (x y : Range ℕ) → nx ≤ 96
     → Meeting xs nx b.along_x.lo b.along_x.hi b.along_x.c (on_x a) x
     → Meeting ys ny b.along_y.lo b.along_y.hi b.along_y.c (on_y a) y
     → Boxed d e x y → Added d e nx ny (Shuts a b xs ys)
@@ -79,58 +80,100 @@ added_both d e f nx ny P Q R s p q = record {
   rest = λ i j hi out. q.rest i j hi out ∙ p.rest i j hi out;
 }
 
+-- ---- one after another on a map
+
+-- where none is meant
+pub gains_none : (m : Map) (P : Ways) → ((a : Axis) (i j : ℕ) → ¬ (P a m.x m.y i j)) → Gains m m P
+gains_none m P n = record {
+  x_kept = refl;
+  y_kept = refl;
+  level_ways = added_none m.flat m.x.count m.y.count (P level m.x m.y) (n level);
+  upright_ways = added_none m.tall m.x.count m.y.count (P upright m.x m.y) (n upright);
+}
+
+-- what is meant the second time, on the tracks of the first
+module _ {m n o : Map} (P Q R : Ways) (s : (a : Axis) (i j : ℕ) → R a m.x m.y i j ↔ (P a m.x m.y i j ⊎ Q a m.x m.y i j)) (p : Gains m n P) (q : Gains n o Q) where
+  pub gains_both : Gains m o R
+  gains_both = record {
+    x_kept = q.x_kept ∙ p.x_kept;
+    y_kept = q.y_kept ∙ p.y_kept;
+    level_ways = added_both m.flat n.flat o.flat m.x.count m.y.count _ _ _ (s level) p.level_ways
+        (subst₂ (λ x y. Added n.flat o.flat x.count y.count (Q level x y)) p.x_kept p.y_kept q.level_ways);
+    upright_ways = added_both m.tall n.tall o.tall m.x.count m.y.count _ _ _ (s upright) p.upright_ways
+        (subst₂ (λ x y. Added n.tall o.tall x.count y.count (Q upright x y)) p.x_kept p.y_kept q.upright_ways);
+  }
+
+-- the same in other words
+pub gains_as : {m n : Map} (P R : Ways) → ((a : Axis) (i j : ℕ) → R a m.x m.y i j ↔ P a m.x m.y i j) → Gains m n P → Gains m n R
+gains_as {m} P R s p =
+    gains_both P (λ a x y i j. ⊥) R (λ a i j. (λ r. inl ((s a i j).0 r), ⊎_elim (s a i j).1 (λ x. absurd x))) p (gains_none _ _ (λ a i j h. h))
+
+same_tracks : {m n : Map} → Mapped m → n.x ≡ m.x → n.y ≡ m.y → Mapped n
+same_tracks h e f = record { x = subst Ascending (sym e) h.x; y = subst Ascending (sym f) h.y }
+
+pub gains_mapped : {m n : Map} {P : Ways} → Mapped m → Gains m n P → Mapped n
+gains_mapped h g = same_tracks h g.x_kept g.y_kept
+
 -- ---- the rectangle of two blocks
 
-module _ (a : Axis) (xs ys : List ℕ) where
-  wide_first : (b d : Block) → ¬ (b.along_x.c ≡ 0) → join_of b d ≡ []
-  unfolding Touch Share
-  wide_first b d n = join_none b d (λ h. n h.0.0.0) (λ h. n h.0.0.0)
+wide_first : (b d : Block) → ¬ (b.along_x.c ≡ 0) → join_of b d ≡ []
+unfolding Touch Share
+wide_first b d n = join_none b d (λ h. n h.0.0.0) (λ h. n h.0.0.0)
 
-  wide_second : (b d : Block) → ¬ (d.along_x.c ≡ 0) → join_of b d ≡ []
-  unfolding Touch Share
-  wide_second b d n = join_none b d (λ h. n h.0.0.1) (λ h. n h.0.0.1)
+wide_second : (b d : Block) → ¬ (d.along_x.c ≡ 0) → join_of b d ≡ []
+unfolding Touch Share
+wide_second b d n = join_none b d (λ h. n h.0.0.1) (λ h. n h.0.0.1)
 
-  none_shut : (b d : Block) → join_of b d ≡ [] → (i j : ℕ) → ¬ (SeamShuts a b d xs ys i j)
+-- that of two places is that of the blocks there that are not widened
+pub joined : (held : Blocks) (m k : ℕ) {p q : Place} {js : List Block} → get_or held.c m 0 ≡ 0 → get_or held.c k 0 ≡ 0
+    → p ≡ place_at held m → q ≡ place_at held k → join_of (place_box p) (place_box q) ≡ js → join_of (boxes held m) (boxes held k) ≡ js
+unfolding box_at
+joined held m k e f g h j =
+    ap₂ join_of (bare m e) (bare k f) ∙ rw (g, h) at j
+  where
+    bare : (l : ℕ) → get_or held.c l 0 ≡ 0 → boxes held l ≡ place_box (place_at held l)
+    bare l z = λ i. record {
+      along_x = record { lo = get_or held.x0 l 0; hi = get_or held.x1 l 0; c = z i };
+      along_y = record { lo = get_or held.y0 l 0; hi = get_or held.y1 l 0; c = z i };
+    }
+
+module _ (m : Map) (b d : Block) where
+  -- where there is none
+  pub gains_apart : join_of b d ≡ [] → Gains m m (ByRectangle b d)
   unfolding SeamShuts Any
-  none_shut b d e i j h = rw e at h
+  gains_apart e = gains_none m (ByRectangle b d) (λ a i j h. rw e at h)
 
-  pub first_wide : (b d : Block) → ¬ (b.along_x.c ≡ 0) → (i j : ℕ) → ¬ (SeamShuts a b d xs ys i j)
-  first_wide b d n = none_shut b d (wide_first b d n)
+  pub gains_wide : ¬ (b.along_x.c ≡ 0) → Gains m m (ByRectangle b d)
+  gains_wide n = gains_apart (wide_first b d n)
 
-  pub second_wide : (b d : Block) → ¬ (d.along_x.c ≡ 0) → (i j : ℕ) → ¬ (SeamShuts a b d xs ys i j)
-  second_wide b d n = none_shut b d (wide_second b d n)
+  -- what the rectangle shuts is what it is to shut
+  pub gains_over : {n : Map} (q : Block) → join_of b d ≡ q ∷ [] → Gains m n (ByBlock q) → Gains m n (ByRectangle b d)
+  unfolding SeamShuts Any
+  gains_over q e g = gains_as (ByBlock q) (ByRectangle b d) (λ a i j. (λ h. ⊎_elim (λ x. x) (λ x. absurd x) (rw e at h), λ h. rw e (inl h))) g
 
-  module _ (u v : Box) (p q : Place) (r : Joined) (f : u.c ≡ 0) (g : v.c ≡ 0) (e : p ≡ place_of u) (h : q ≡ place_of v)
-      (w : join_of (place_box p) (place_box q) ≡ joined_is r) where
-    box_is : (b : Box) → b.c ≡ 0 → place_box (place_of b) ≡ block b
-    box_is b z = λ i. record {
-      along_x = record { lo = b.x0; hi = b.x1; c = sym z i };
-      along_y = record { lo = b.y0; hi = b.y1; c = sym z i };
-    }
+-- ---- the rectangles of block k, one after another
 
-    rectangles : join_of (block u) (block v) ≡ joined_is r
-    rectangles = sym (ap₂ join_of (ap place_box e ∙ box_is u f) (ap place_box h ∙ box_is v g)) ∙ w
+module _ (b : ℕ → Block) (k : ℕ) where
+  pub seams_first : (m : Map) → Gains m m (BySeams b k 0)
+  seams_first m = gains_none m (BySeams b k 0) (λ a i j h. omega (arith, h.1))
 
-    pub seam_apart : r ≡ Apart → (i j : ℕ) → ¬ (SeamShuts a (block u) (block v) xs ys i j)
-    seam_apart z = none_shut (block u) (block v) (rectangles ∙ ap joined_is z)
+  pub seams_next : {m n o : Map} (l : ℕ) → Gains m n (BySeams b k l) → Gains n o (ByRectangle (b l) (b k)) → Gains m o (BySeams b k (l + 1))
+  seams_next {m} l p q =
+      gains_both (BySeams b k l) (ByRectangle (b l) (b k)) (BySeams b k (l + 1)) (λ a i j. (
+        λ s. ⊎_elim (λ e. inr (subst (λ h. SeamShuts a (b h) (b k) m.x.at m.y.at i j) e s.2)) (λ h. inl (s.0, h, s.2))
+            (eq-or-lt_of_le (le_of_suc-le-suc (let h : s.0 < suc l = omega (arith, s.1) in h))),
+        ⊎_elim (λ s. (s.0, omega (arith, s.1), s.2)) (λ s. (l, omega arith, s)),
+      )) p q
 
-    one : (k : Place) → r ≡ Over k → join_of (block u) (block v) ≡ place_box k ∷ []
-    one k z = rectangles ∙ ap joined_is z
-
-    -- what the rectangle shuts is what it is to shut
-    pub seam_over : (k : Place) (d d' : List ℕ) (nx ny : ℕ) → r ≡ Over k → Added d d' nx ny (Shuts a (place_box k) xs ys)
-        → Added d d' nx ny (SeamShuts a (block u) (block v) xs ys)
-    unfolding SeamShuts Any
-    seam_over k d d' nx ny z m = record {
-      long = m.long;
-      each = λ i j hi hj. ⊎_elim (λ s. inl (rw (one k z) (inl s.0), s.1)) (λ s. inr (λ t. ⊎_elim s.0 (λ x. x) (rw (one k z) at t), s.1)) (m.each i j hi hj);
-      rest = m.rest;
-    }
+  -- a block that is widened has none
+  pub seams_wide : (m : Map) → ¬ ((b k).along_x.c ≡ 0) → Gains m m (BySeams b k k)
+  unfolding SeamShuts Any
+  seams_wide m n = gains_none m (BySeams b k k) (λ a i j h. let e : join_of (b h.0) (b k) ≡ [] = wide_second (b h.0) (b k) n in rw e at h.2)
 
 -- ---- block after block
 
 module _ (a : Axis) (xs : List ℕ) (nx : ℕ) (ys : List ℕ) (ny : ℕ) (b : ℕ → Block) where
-  pub marked_first : (d : List ℕ) → nx ≤ 96 → ny ≤ 96 → Blank d → Marked a d xs nx ys ny b 0
+  marked_first : (d : List ℕ) → nx ≤ 96 → ny ≤ 96 → Blank d → Marked a d xs nx ys ny b 0
   marked_first d hx hy z = record {
     long = z.long;
     each = λ i j hi hj. inr (λ s. omega (arith, s.1), z.each (cell i j) (omega arith));
@@ -161,29 +204,45 @@ module _ (a : Axis) (xs : List ℕ) (nx : ℕ) (ys : List ℕ) (ny : ℕ) (b : �
     rest = λ i j hi hj out. p.rest i j hi out ∙ m.rest i j hi hj out;
   }
 
-  pub marked_more : (d f e : List ℕ) (n : ℕ) → Marked a d xs nx ys ny b n → Added d f nx ny (Shuts a (b n) xs ys) → Added f e nx ny (Seam a xs ys b n n)
-      → Marked a e xs nx ys ny b (n + 1)
-  marked_more d f e n m q s = marked_by d e n m (added_both d f e nx ny _ _ (Adds n) (λ i j. (λ h. h, λ h. h)) q s)
+-- from m on, whose tables had no marks, the first k blocks are marked
+pub record Done (m n : Map) (b : ℕ → Block) (k : ℕ) : Type 0 where
+  pub x_kept : n.x ≡ m.x
+  pub y_kept : n.y ≡ m.y
+  pub level_ways : Marked level n.flat m.x.at m.x.count m.y.at m.y.count b k
+  pub upright_ways : Marked upright n.tall m.x.at m.x.count m.y.at m.y.count b k
 
-  -- the rectangles of block k, one after another
-  pub seam_first : (d : List ℕ) (k : ℕ) → Added d d nx ny (Seam a xs ys b k 0)
-  seam_first d k = added_none d nx ny (Seam a xs ys b k 0) (λ i j h. omega (arith, h.1))
+pub done_first : (m : Map) (b : ℕ → Block) → Mapped m → Blank m.flat × Blank m.tall → Done m m b 0
+done_first m b h z = record {
+  x_kept = refl;
+  y_kept = refl;
+  level_ways = marked_first level m.x.at m.x.count m.y.at m.y.count b m.flat h.x.few h.y.few z.0;
+  upright_ways = marked_first upright m.x.at m.x.count m.y.at m.y.count b m.tall h.x.few h.y.few z.1;
+}
 
-  pub seam_next : (d e f : List ℕ) (k m : ℕ) → Added d e nx ny (Seam a xs ys b k m) → Added e f nx ny (SeamShuts a (b m) (b k) xs ys)
-      → Added d f nx ny (Seam a xs ys b k (m + 1))
-  seam_next d e f k m p q =
-      added_both d e f nx ny _ _ (Seam a xs ys b k (m + 1)) (λ i j. (
-        λ s. ⊎_elim (λ e. inr (subst (λ l. SeamShuts a (b l) (b k) xs ys i j) e s.2)) (λ h. inl (s.0, h, s.2))
-            (eq-or-lt_of_le (le_of_suc-le-suc (let h : s.0 < suc m = omega (arith, s.1) in h))),
-        ⊎_elim (λ s. (s.0, omega (arith, s.1), s.2)) (λ s. (m, omega arith, s)),
-      )) p q
+-- block k itself, and its rectangles with those before it
+abbrev Adding : (ℕ → Block) → ℕ → Ways
+Adding b k a x y i j = ByBlock (b k) a x y i j ⊎ BySeams b k k a x y i j
 
-  pub seam_end : (d e : List ℕ) (k m : ℕ) → m ≡ k → Added d e nx ny (Seam a xs ys b k m) → Added d e nx ny (Seam a xs ys b k k)
-  seam_end d e k m z p = subst (λ m. Added d e nx ny (Seam a xs ys b k m)) z p
+pub done_more : {m n o q : Map} (b : ℕ → Block) (k : ℕ) → Done m n b k → Gains n o (ByBlock (b k)) → Gains o q (BySeams b k k) → Done m q b (k + 1)
+done_more {m} {n} {o} {q} b k d g s = record {
+  x_kept = all.x_kept ∙ d.x_kept;
+  y_kept = all.y_kept ∙ d.y_kept;
+  level_ways = marked_by level m.x.at m.x.count m.y.at m.y.count b n.flat q.flat k d.level_ways
+      (subst₂ (λ x y. Added n.flat q.flat x.count y.count (Adding b k level x y)) d.x_kept d.y_kept all.level_ways);
+  upright_ways = marked_by upright m.x.at m.x.count m.y.at m.y.count b n.tall q.tall k d.upright_ways
+      (subst₂ (λ x y. Added n.tall q.tall x.count y.count (Adding b k upright x y)) d.x_kept d.y_kept all.upright_ways);
+}
+  where
+    all : Gains n q (Adding b k)
+    all = gains_both (ByBlock (b k)) (BySeams b k k) (Adding b k) (λ a i j. (λ h. h, λ h. h)) g s
 
-  -- a block that is widened has none
-  pub seam_wide : (d : List ℕ) (k : ℕ) → ¬ ((b k).along_x.c ≡ 0) → Added d d nx ny (Seam a xs ys b k k)
-  seam_wide d k n = added_none d nx ny (Seam a xs ys b k k) (λ i j h. second_wide a xs ys (b h.0) (b k) n i j h.2)
+pub done_mapped : {m n : Map} {b : ℕ → Block} {k : ℕ} → Mapped m → Done m n b k → Mapped n
+done_mapped h d = same_tracks h d.x_kept d.y_kept
 
-  pub marked_end : (d : List ℕ) (k n : ℕ) → k ≡ n → Marked a d xs nx ys ny b k → Marked a d xs nx ys ny b n
-  marked_end d k n e m = subst (λ j. Marked a d xs nx ys ny b j) e m
+-- told by the tracks that it has now
+module _ {m n : Map} {b : ℕ → Block} {k : ℕ} (d : Done m n b k) where
+  pub done_level : Marked level n.flat n.x.at n.x.count n.y.at n.y.count b k
+  done_level = subst₂ (λ x y. Marked level n.flat x.at x.count y.at y.count b k) (sym d.x_kept) (sym d.y_kept) d.level_ways
+
+  pub done_upright : Marked upright n.tall n.x.at n.x.count n.y.at n.y.count b k
+  done_upright = subst₂ (λ x y. Marked upright n.tall x.at x.count y.at y.count b k) (sym d.x_kept) (sym d.y_kept) d.upright_ways

@@ -1,19 +1,22 @@
--- The arms of a match on a record that was read: that for the other kinds, and what is known past the first checks of a lay and an ask.
-use Prim.Native.Nat.{ℕ, zero, suc, ◌≤◌}
-use native.Mathlib.Omega.{arith}
-use mathlib.Core.Path.{◌≡◌, refl, subst}
+-- The arms of a match on a record that was read: that for the other kinds.
+use Prim.Native.Nat.{ℕ, zero, suc}
+use mathlib.Core.Path.{◌≡◌, refl, sym, subst, subst₂}
 use mathlib.Core.Logic.{inl, inr}
+use mathlib.Core.List.{List}
 use Rattle.paper.specs.declared.Size.{Size}
 use Rattle.paper.specs.declared.Id.{Id}
 use Rattle.paper.specs.declared.Rect.{Rect}
 use Rattle.paper.specs.declared.Question.{Question}
 use Rattle.paper.specs.declared.Board.{Board}
+use Rattle.paper.specs.declared.Reply.{Reply}
 use Rattle.paper.specs.declared.Record.{Record}
 use Rattle.paper.specs.declared.Record.TheVariants.{Bounds, KeepOut, Lay, Ask, TakeOut, Undo, Malformed}
-use Rattle.paper.specs.Answer.{plain, Gives, BeforeBounds}
+use Rattle.paper.specs.Padding.{WellFormed}
+use Rattle.paper.specs.Answer.{plain, Replies}
 use Rattle.paper.specs.Laws.Back.{layout_of}
-use Rattle.feed.specs.Feeding.{place, CaseIs, lent_checks}
-use Rattle.feed.specs.Laws.Telling.{lent_ok}
+use Rattle.paper.specs.Laws.Feeds.{refusing}
+use Rattle.feed.specs.Feeding.{place, CaseIs, Quietly}
+use Rattle.feed.specs.Laws.Replying.{malformed_reply}
 
 -- the records of the case
 abbrev pub Of : ℕ → Record → Type 0
@@ -40,11 +43,11 @@ unfolding CaseIs
 others c rec (inl e) none = e
 others c rec (inr e) none = absurd (none (subst (λ c. Of c rec) e (placed rec)))
 
--- a slice of 50 numbers is lent, and the board has bounds
-module _ (b : Board) (n k : ℕ) (g : Gives (lent_checks (layout_of b) n) (plain k)) (z : k ≡ 0) where
-  pub lent : Gives (lent_checks (layout_of b) n) (plain 0)
-  lent = subst (λ k. Gives (lent_checks (layout_of b) n) (plain k)) z g
+-- what is none of the case is malformed, and is refused so
+pub default : (b : Board) → WellFormed b → (c : ℕ) (rec : Record) → CaseIs c rec → ¬ (Of c rec) → (s : List ℕ) (r : Reply) → r ≡ refusing (plain 1) b
+    → Replies (layout_of b) rec s s r
+default b w c rec h n s r e = subst₂ (λ rec r. Replies (layout_of b) rec s s r) (sym (others c rec h n)) (sym e) (malformed_reply b w s)
 
-  pub bounded : 1 ≤ b.size.w
-  unfolding layout_of
-  bounded = let h : ¬ (BeforeBounds (layout_of b)) = (lent_ok (layout_of b) n lent).0 in omega arith
+pub default_quiet : (b : Board) → WellFormed b → (c : ℕ) (rec : Record) → CaseIs c rec → ¬ (Of c rec) → (r : Reply) → r ≡ refusing (plain 1) b → Quietly (layout_of b) rec r
+unfolding Quietly
+default_quiet b w c rec h n r e s = default b w c rec h n s r e

@@ -4,30 +4,28 @@ ghost use Rattle.paper.specs.Limits.{most_corners};
 ghost use Rattle.paper.specs.Padding.{WellFormed};
 ghost use Rattle.paper.specs.Answer.{plain, Gives, written, Replies};
 ghost use Rattle.paper.specs.Laws.Back.{nodes, layout_of};
-ghost use Rattle.paper.specs.Laws.Feeds.{refusing};
-ghost use Rattle.feed.specs.Feeding.{CaseIs, lent_checks, said_of, wired_reply, wire_item, Laying, Lays};
+ghost use Rattle.feed.specs.Feeding.{CaseIs, said_code, lent_checks, AskGets, LayGets, wired_reply, wire_item, Laying, Lays};
 
 use crate::tests::used;
 use crate::wires::wire;
-use crate::{Wired, told};
+use crate::{Blame, Wired, blamed, refused};
 use items::add_item;
-use paper::{Board, Id, Item, LEAST_SLICE, MOST_BLOCKS, MOST_CORNERS, Record, Reply};
+use paper::{Board, Id, Item, LEAST_SLICE, MOST_BLOCKS, Question, Record, Refusal, Reply};
+use router::Wire;
 
-// x and y of the first n corners, from the slice's start.
-fn write(answer: &mut [u16], xs: &[u16; MOST_CORNERS], ys: &[u16; MOST_CORNERS], n: usize)
-    requires { (n ≤ 25) × (n + n ≤ length answer.old) × (length xs.now ≡ 25) × (length ys.now ≡ 25) }
-    ensures { answer.new ≡ written (take n (nodes xs.now ys.now)) answer.old }
+// x and y of the wire's corners, from the slice's start.
+fn write(answer: &mut [u16], w: Wire)
+    requires { (w.corners ≤ most_corners) × (w.corners + w.corners ≤ length answer.old) }
+    ensures { answer.new ≡ written (take w.corners (nodes w.xs w.ys)) answer.old }
 {
-    let mut k: usize = 0;
-    while k < n {
-        answer[k + k] = xs[k];
-        answer[k + k + 1] = ys[k];
-        k += 1;
+    for k in 0..w.corners {
+        answer[k + k] = w.xs[k];
+        answer[k + k + 1] = w.ys[k];
     }
 }
 
 // The reply that tells the wire, and leaves this board.
-fn wire_reply(board: Board, w: Wired) -> Reply
+fn wire_reply(board: Board, w: Wire) -> Reply
     ensures { result ≡ wired_reply board w }
 {
     Reply {
@@ -37,114 +35,109 @@ fn wire_reply(board: Board, w: Wired) -> Reply
         length: w.length,
         detour: w.detour,
         corners: w.corners,
-        board: board,
+        board,
     }
 }
 
-// The reply that says what the pins get.
-fn refused(board: Board, w: Wired) -> Reply
-    ensures { result ≡ refusing (said_of w) board }
-{
-    Reply {
-        code: w.code,
-        pin: w.pin,
-        id: w.id,
-        length: 0,
-        detour: 0,
-        corners: 0,
-        board: board,
-    }
-}
-
-// The code that a lay or an ask gets before its pins are looked at.
+// Why a lay or an ask is refused before its pins are looked at.
 #[tactic(auto, unfolding(paper::specs::Answer::Gives, paper::specs::Laws::Back::layout_of))]
-fn lent_code(board: Board, lent: usize) -> u8
-    ensures { Gives (lent_checks (layout_of board) lent) (plain result) }
+fn may_answer(board: Board, lent: usize) -> Result<(), Refusal>
+    ensures { Gives (lent_checks (layout_of board) lent) (plain (said_code result)) }
 {
     if board.size.w == 0 {
-        return 2;
+        return Err(Refusal::NoBounds);
     }
     if lent < LEAST_SLICE {
-        return 16;
+        return Err(Refusal::ShortSlice);
     }
-    0
+    Ok(())
+}
+
+// ---- an ask
+
+// What an ask gets: the wire, or why there is none to tell.
+#[tactic(auto, using(crate::specs::Laws::Telling::bounded, crate::specs::Laws::Telling::ask_short, crate::specs::Laws::Telling::ask_wires))]
+fn asked(board: Board, q: Question, lent: usize) -> Result<Wired, Blame>
+    requires { WellFormed board }
+    ensures { AskGets (layout_of board) q lent result }
+{
+    may_answer(board, lent)?;
+    wire(board, q)
 }
 
 // Kinds 4 and 8.
+#[tactic(auto, using(crate::specs::Laws::Telling::ask_refused, crate::specs::Laws::Telling::ask_room, crate::specs::Laws::Telling::ask_told))]
 pub(crate) fn ask(board: Board, read: Record, answer: &mut [u16]) -> Reply
     requires { WellFormed board × CaseIs 3 read }
     ensures { Replies (layout_of board) read answer.old answer.new result }
 {
     match read {
-        Record::Ask(q) => {
-            let code = lent_code(board, answer.len());
-            if code != 0 {
-                return told(board, code);
+        Record::Ask(q) => match asked(board, q, answer.len()) {
+            Ok(found) => {
+                write(answer, found.wire);
+                wire_reply(board, found.wire)
             }
-            let found = wire(board, q);
-            if found.code != 0 {
-                return refused(board, found);
-            }
-            let xs = found.xs;
-            let ys = found.ys;
-            write(answer, &xs, &ys, found.corners);
-            wire_reply(board, found)
-        }
-        _ => told(board, 1),
+            Err(blame) => blamed(board, blame),
+        },
+        _ => refused(board, Refusal::Malformed),
     }
 }
 
-fn wire_item(id: Id, w: Wired) -> Item
+// ---- a lay
+
+// What a lay gets before it is asked whether there is room: the wire, or why there is none to lay.
+#[tactic(auto, using(crate::specs::Laws::Telling::bounded, crate::specs::Laws::Telling::lay_short, crate::specs::Laws::Telling::lay_used, crate::specs::Laws::Telling::lay_wires, paper::specs::Laws::Says::said, paper::specs::Laws::Says::said_not))]
+fn may_lay(board: Board, id: Id, q: Question, lent: usize) -> Result<Wired, Blame>
+    requires { WellFormed board }
+    ensures { LayGets (layout_of board) id q lent result }
+{
+    may_answer(board, lent)?;
+    if used(board, id.number) {
+        return Err(Blame::from(Refusal::IdInUse));
+    }
+    wire(board, q)
+}
+
+fn wire_item(id: Id, w: Wire) -> Item
     requires { (1 ≤ w.corners) × (w.corners ≤ most_corners) }
     ensures { result ≡ wire_item id.number w }
 {
     let xs = w.xs;
     let ys = w.ys;
-    let runs = (w.corners - 1) as u8;
     Item {
         id: id.number,
-        runs: runs,
-        xs: xs,
-        ys: ys,
+        // at most 24: `try_from` would want an answer for more
+        runs: (w.corners - 1) as u8,
+        xs,
+        ys,
     }
 }
 
 // The wire is put among the items, if there is room for its runs.
-fn lay_wire(board: Board, id: Id, w: Wired, answer: &mut [u16]) -> Reply
-    requires { Laying board id w answer.old }
-    ensures { Lays board id w answer.old answer.new result }
+fn lay_wire(board: Board, id: Id, found: Wired, answer: &mut [u16]) -> Reply
+    requires { Laying board id found answer.old }
+    ensures { Lays board id found answer.old answer.new result }
 {
-    if w.blocks + w.corners > MOST_BLOCKS + 1 {
-        return told(board, 14);
+    let w = found.wire;
+    if found.blocks + w.corners > MOST_BLOCKS + 1 {
+        return refused(board, Refusal::TooManyBlocks);
     }
-    let xs = w.xs;
-    let ys = w.ys;
-    write(answer, &xs, &ys, w.corners);
-    let item = wire_item(id, w);
-    let next = add_item(board, item);
+    write(answer, w);
+    let next = add_item(board, wire_item(id, w));
     wire_reply(next, w)
 }
 
 // Kinds 3 and 9.
+#[tactic(auto, using(crate::specs::Laws::Telling::lay_refused, crate::specs::Laws::Telling::lay_asks, crate::specs::Laws::Telling::lay_done))]
 pub(crate) fn lay(board: Board, read: Record, answer: &mut [u16]) -> Reply
     requires { WellFormed board × CaseIs 2 read }
     ensures { Replies (layout_of board) read answer.old answer.new result }
 {
     match read {
-        Record::Lay(id, q) => {
-            let code = lent_code(board, answer.len());
-            if code != 0 {
-                return told(board, code);
-            }
-            if used(board, id.number) {
-                return told(board, 4);
-            }
-            let found = wire(board, q);
-            if found.code != 0 {
-                return refused(board, found);
-            }
-            lay_wire(board, id, found, answer)
-        }
-        _ => told(board, 1),
+        Record::Lay(id, q) => match may_lay(board, id, q, answer.len()) {
+            Ok(found) => lay_wire(board, id, found, answer),
+            Err(blame) => blamed(board, blame),
+        },
+        _ => refused(board, Refusal::Malformed),
     }
 }

@@ -7,47 +7,94 @@ mod tests;
 mod wires;
 
 ghost use Rattle.std.specs.Prelude.{◌≡◌, length, get_or};
+ghost use Rattle.paper.specs.Codes.{code_of};
 ghost use Rattle.paper.specs.Padding.{WellFormed};
 ghost use Rattle.paper.specs.Answer.{plain, Fed};
 ghost use Rattle.paper.specs.Laws.Feeds.{refusing};
+ghost use Rattle.feed.specs.Feeding.{about_none, said_of, untold_of};
 
 use answers::{ask, lay};
-use paper::{Board, MOST_CORNERS, Reply};
+use paper::{Board, Refusal, Reply};
 use quiet::{bounds, keep_out, take_out, undo_latest};
 use records::read;
+use router::{Untold, Wire};
 use soundness::sound;
+
+// ---- why a record is refused
+
+// The reason; with a blocked pin which one it is, 1 or 2, and the id of the item that blocks it; else two zeros, as the reply and `Gives` have them.
+#[derive(Clone, Copy, PartialEq, Eq, Debug)]
+struct Blame {
+    why: Refusal,
+    pin: u8,
+    id: u16,
+}
+
+// The reason, about no pin.
+impl From<Refusal> for Blame {
+    ghost from_gives = { λ why blame. blame ≡ about_none why };
+
+    fn from(why: Refusal) -> Blame {
+        Blame { why, pin: 0, id: 0 }
+    }
+}
+
+// Why the router tells no wire.
+impl From<Untold> for Blame {
+    ghost from_gives = { λ untold blame. blame ≡ untold_of untold };
+
+    fn from(untold: Untold) -> Blame {
+        match untold {
+            Untold::NoWire => Blame::from(Refusal::NoWire),
+            Untold::TooManyRuns(_) => Blame::from(Refusal::TooManyRuns),
+        }
+    }
+}
+
+// A wire that may be told, and how many blocks the board has.
+#[derive(Clone, Copy, PartialEq, Eq, Debug)]
+struct Wired {
+    wire: Wire,
+    blocks: usize,
+}
 
 // ---- replies without a wire
 
-// The reply with the code, this board and nothing else.
-fn told(board: Board, code: u8) -> Reply
-    ensures { result ≡ refusing (plain code) board }
+// The record is accepted, and this is the board then.
+fn accepted(board: Board) -> Reply
+    ensures { result ≡ refusing (plain 0) board }
 {
     Reply {
-        code: code,
+        code: 0,
         pin: 0,
         id: 0,
         length: 0,
         detour: 0,
         corners: 0,
-        board: board,
+        board,
     }
 }
 
-// ---- wires
+// The record is refused, and the board stays.
+fn blamed(board: Board, blame: Blame) -> Reply
+    ensures { result ≡ refusing (said_of blame) board }
+{
+    Reply {
+        code: u8::from(blame.why),
+        pin: blame.pin,
+        id: blame.id,
+        length: 0,
+        detour: 0,
+        corners: 0,
+        board,
+    }
+}
 
-// What the pins get: a code, with 11 and 18 the pin and the item; with code 0 the wire and how many blocks the board has.
-#[derive(Clone, Copy)]
-struct Wired {
-    code: u8,
-    pin: u8,
-    id: u16,
-    blocks: usize,
-    length: u32,
-    detour: u32,
-    corners: usize,
-    xs: [u16; MOST_CORNERS],
-    ys: [u16; MOST_CORNERS],
+// The same about no pin.
+fn refused(board: Board, why: Refusal) -> Reply
+    ensures { result ≡ refusing (plain (code_of why)) board }
+{
+    blamed(board, Blame::from(why))
 }
 
 // ---- the whole
@@ -56,13 +103,11 @@ struct Wired {
 fn kind_of(bytes: &[u8]) -> u8
     ensures { result ≡ get_or bytes.now 0 0 }
 {
-    if bytes.len() == 0 {
-        return 0;
-    }
-    bytes[0]
+    bytes.first().copied().unwrap_or(0)
 }
 
-// A record fed to a board that is well formed, for callers that keep the board themselves.
+// A record fed to a board that is well formed, for callers that keep the board themselves. That it is so stays a clause and is no type of its
+// own: `Fed` speaks of the board as it is handed in and handed back. The kind is a number, for the match that document 01 names.
 #[tactic(auto, using(crate::proofs::ByKind::case_read, crate::proofs::ByKind::fed_of_no_kind))]
 pub fn feed_sound(board: Board, bytes: &[u8], answer: &mut [u16]) -> Reply
     requires { WellFormed board }
@@ -76,7 +121,7 @@ pub fn feed_sound(board: Board, bytes: &[u8], answer: &mut [u16]) -> Reply
         4 | 8 => ask(board, rec, answer),
         5 => take_out(board, rec),
         6 => undo_latest(board, rec),
-        0 | 7 | 10..=255 => told(board, 1),
+        0 | 7 | 10..=255 => refused(board, Refusal::Malformed),
     }
 }
 
@@ -88,5 +133,5 @@ pub fn feed(board: Board, bytes: &[u8], answer: &mut [u16]) -> Reply
     if sound(board) {
         return feed_sound(board, bytes, answer);
     }
-    told(board, 17)
+    refused(board, Refusal::IllFormed)
 }

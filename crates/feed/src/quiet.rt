@@ -3,13 +3,13 @@ ghost use Rattle.std.specs.Prelude.{◌≡◌};
 ghost use Rattle.paper.specs.Layout.{keep_out};
 ghost use Rattle.paper.specs.Padding.{item_of, WellFormed};
 ghost use Rattle.paper.specs.Laws.Back.{layout_of};
-ghost use Rattle.feed.specs.Feeding.{CaseIs, Quietly, KeepOutCode};
+ghost use Rattle.feed.specs.Feeding.{CaseIs, Quietly, said_code, KeepOutCode};
 
 use crate::tests::used;
-use crate::told;
+use crate::{accepted, refused};
 use blocks::{Look, Place, hit, of_board};
 use items::{add_item, begin, find, take_item, undo};
-use paper::{Board, Id, Item, MOST_BLOCKS, MOST_CORNERS, Record, Rect, Reply};
+use paper::{Board, Id, Item, MOST_BLOCKS, MOST_CORNERS, Record, Rect, Refusal, Reply};
 use seams::stopped;
 use soundness::{in_range, rect_fits};
 
@@ -21,27 +21,27 @@ pub(crate) fn bounds(board: Board, read: Record) -> Reply
     match read {
         Record::Bounds(size) => {
             if in_range(size) {
-                return told(begin(size), 0);
+                return accepted(begin(size));
             }
-            told(board, 3)
+            refused(board, Refusal::OutOfRange)
         }
-        _ => told(board, 1),
+        _ => refused(board, Refusal::Malformed),
     }
 }
 
-// The code that a keep-out gets.
-fn keep_out_code(board: Board, id: Id, rect: Rect) -> u8
+// Whether a keep-out may be put on the board, or why it may not.
+fn may_keep_out(board: Board, id: Id, rect: Rect) -> Result<(), Refusal>
     requires { WellFormed board }
-    ensures { KeepOutCode (layout_of board) id rect result }
+    ensures { KeepOutCode (layout_of board) id rect (said_code result) }
 {
     if board.size.w == 0 {
-        return 2;
+        return Err(Refusal::NoBounds);
     }
     if used(board, id.number) {
-        return 4;
+        return Err(Refusal::IdInUse);
     }
-    if !rect_fits(board.size, rect.x0, rect.y0, rect.x1, rect.y1) {
-        return 6;
+    if !rect_fits(board.size, rect) {
+        return Err(Refusal::NoRectangle);
     }
     let held = of_board(board, false);
     let place = Place {
@@ -51,18 +51,18 @@ fn keep_out_code(board: Board, id: Id, rect: Rect) -> u8
         y1: rect.y1,
     };
     if hit(held, Look::KeepOuts, place) {
-        return 7;
+        return Err(Refusal::OnKeepOut);
     }
     if stopped(held, place) {
-        return 8;
+        return Err(Refusal::OnWire);
     }
-    let last = held.items;
-    if held.first[last] >= MOST_BLOCKS {
-        return 14;
+    if held.first[held.items] >= MOST_BLOCKS {
+        return Err(Refusal::TooManyBlocks);
     }
-    0
+    Ok(())
 }
 
+#[tactic(auto, unfolding(paper::specs::Padding::item_of))]
 fn rect_item(id: Id, r: Rect) -> Item
     ensures { result ≡ item_of (keep_out id.number r) }
 {
@@ -75,8 +75,8 @@ fn rect_item(id: Id, r: Rect) -> Item
     Item {
         id: id.number,
         runs: 0,
-        xs: xs,
-        ys: ys,
+        xs,
+        ys,
     }
 }
 
@@ -86,19 +86,16 @@ pub(crate) fn keep_out(board: Board, read: Record) -> Reply
     ensures { Quietly (layout_of board) read result }
 {
     match read {
-        Record::KeepOut(id, rect) => {
-            let code = keep_out_code(board, id, rect);
-            if code != 0 {
-                return told(board, code);
-            }
-            let item = rect_item(id, rect);
-            told(add_item(board, item), 0)
-        }
-        _ => told(board, 1),
+        Record::KeepOut(id, rect) => match may_keep_out(board, id, rect) {
+            Ok(()) => accepted(add_item(board, rect_item(id, rect))),
+            Err(why) => refused(board, why),
+        },
+        _ => refused(board, Refusal::Malformed),
     }
 }
 
 // Kind 5.
+#[tactic(auto, using(paper::specs::Laws::Standing::well_standing, crate::proofs::Taking::take_early, crate::proofs::Taking::take_asks, crate::proofs::Taking::taken, crate::proofs::Taking::none_taken))]
 pub(crate) fn take_out(board: Board, read: Record) -> Reply
     requires { WellFormed board × CaseIs 4 read }
     ensures { Quietly (layout_of board) read result }
@@ -106,14 +103,14 @@ pub(crate) fn take_out(board: Board, read: Record) -> Reply
     match read {
         Record::TakeOut(id) => {
             if board.size.w == 0 {
-                return told(board, 2);
+                return refused(board, Refusal::NoBounds);
             }
             match find(board, id.number) {
-                items::Found::At(at) => told(take_item(board, at), 0),
-                items::Found::Free => told(board, 5),
+                Some(at) => accepted(take_item(board, at)),
+                None => refused(board, Refusal::IdNotInUse),
             }
         }
-        _ => told(board, 1),
+        _ => refused(board, Refusal::Malformed),
     }
 }
 
@@ -125,13 +122,13 @@ pub(crate) fn undo_latest(board: Board, read: Record) -> Reply
     match read {
         Record::Undo => {
             if board.size.w == 0 {
-                return told(board, 2);
+                return refused(board, Refusal::NoBounds);
             }
             if board.kept == 0 {
-                return told(board, 15);
+                return refused(board, Refusal::NothingKept);
             }
-            told(undo(board), 0)
+            accepted(undo(board))
         }
-        _ => told(board, 1),
+        _ => refused(board, Refusal::Malformed),
     }
 }

@@ -8,40 +8,27 @@ ghost use Rattle.paper.specs.Laws.Says.{Says};
 
 use items::find;
 use paper::{Board, Pins, Size};
+use shapes::on_board;
 
 // Both pins lie on the board.
-pub(crate) fn on_board(s: Size, p: Pins) -> bool
-    ensures { Says result (OnBoard s (source p) × OnBoard s (target p)) }
+pub(crate) fn both_on_board(size: Size, p: Pins) -> bool
+    ensures { Says result (OnBoard size (source p) × OnBoard size (target p)) }
 {
-    if p.sx > s.w {
-        return false;
-    }
-    if p.sy > s.h {
-        return false;
-    }
-    if p.tx > s.w {
-        return false;
-    }
-    p.ty <= s.h
+    on_board(size, p.sx, p.sy) && on_board(size, p.tx, p.ty)
 }
 
 // Both pins are at one node.
 pub(crate) fn one_node(p: Pins) -> bool
     ensures { Says result (source p ≡ target p) }
 {
-    if p.sx != p.tx {
-        return false;
-    }
-    p.sy == p.ty
+    p.sx == p.tx && p.sy == p.ty
 }
 
 // An item has the id.
+#[tactic(auto, using(crate::proofs::Used::used_says, paper::specs::Laws::Standing::well_standing))]
 pub(crate) fn used(board: Board, id: u16) -> bool
     requires { WellFormed board }
     ensures { Says result (Used (layout_of board).items id) }
 {
-    match find(board, id) {
-        items::Found::At(_) => true,
-        items::Found::Free => false,
-    }
+    find(board, id).is_some()
 }

@@ -1,41 +1,29 @@
-// What two pins get: the answered wire, or the code that stands in its way.
-ghost use Rattle.std.specs.Prelude.{◌≡◌, ◌<◌, ◌≤◌, get_or};
-ghost use Rattle.paper.specs.Limits.{most_blocks};
-ghost use Rattle.paper.specs.Padding.{no_item, WellFormed};
-ghost use Rattle.paper.specs.Answer.{named};
+// What two pins get: the answered wire, or why there is none to tell.
+ghost use Rattle.std.specs.Prelude.{◌≡◌, ◌<◌, ◌≤◌, None};
+ghost use Rattle.paper.specs.Padding.{WellFormed};
 ghost use Rattle.paper.specs.Laws.Back.{layout_of};
-ghost use Rattle.blocks.specs.declared.Found.TheVariants.{Nothing};
 ghost use Rattle.blocks.specs.Flat.{Fits};
 ghost use Rattle.seams.specs.Seaming.{RoundIs};
-ghost use Rattle.feed.specs.Feeding.{no_stop, StopsPin, StopsPins, wired_of, no_wire, Wires};
+ghost use Rattle.feed.specs.Feeding.{StopsPin, StopsPins, Placed, blame_of, Wires};
 
-use crate::Wired;
-use crate::tests::{on_board, one_node};
-use blocks::{Blocks, Found, Look, Place, of_board, scan};
-use paper::{Board, Item, MOST_BLOCKS, MOST_CORNERS, Pins, Question, Size, Verdict};
-use router::{Route, Routed, find_wire};
+use crate::tests::{both_on_board, one_node};
+use crate::{Blame, Wired};
+use blocks::{Blocks, Look, Place, of_board, scan};
+use paper::{Board, Item, MOST_BLOCKS, Pins, Question, Refusal, Size};
+use router::find_wire;
 use seams::round;
 
-// What stands in the way of two pins: a code, with 11 and 18 the pin and the place of the item among the board's; code 0 where nothing does.
-#[derive(Clone, Copy)]
-struct Stop {
-    code: u8,
-    pin: u8,
-    item: usize,
+// What stands in the way of two pins: a reason alone, or an item, by its place among the board's, at pin 1 or 2.
+#[derive(Clone, Copy, PartialEq, Eq, Debug)]
+enum Stop {
+    Alone(Refusal),
+    AtPin(Refusal, u8, usize),
 }
 
-fn no_stop(code: u8) -> Stop
-    ensures { result ≡ no_stop code }
-{
-    Stop {
-        code: code,
-        pin: 0,
-        item: 0,
-    }
-}
-
-fn near_wire(held: Blocks, x: u16, y: u16, pin: u8) -> Stop
-    requires { Fits held × RoundIs held x y Nothing }
+#[tactic(auto, unfolding(crate::specs::Feeding::StopsPin, crate::specs::Feeding::FirstAt))]
+fn near_wire(held: Blocks, x: u16, y: u16, pin: u8) -> Result<(), Stop>
+    requires fits { Fits held }
+    requires free { RoundIs held x y None }
     ensures { StopsPin held x y pin result }
 {
     let at = Place {
@@ -45,125 +33,67 @@ fn near_wire(held: Blocks, x: u16, y: u16, pin: u8) -> Stop
         y1: y,
     };
     match scan(held, Look::Wires, at) {
-        Found::At(i) => Stop {
-            code: 18,
-            pin: pin,
-            item: i,
-        },
-        Found::Nothing => no_stop(0),
+        Some(item) => Err(Stop::AtPin(Refusal::PinNearWire, pin, item)),
+        None => Ok(()),
     }
 }
 
-fn pin_stop(held: Blocks, x: u16, y: u16, pin: u8) -> Stop
-    requires { Fits held × (x < 65535) × (y < 65535) }
+#[tactic(auto, unfolding(crate::specs::Feeding::StopsPin, crate::specs::Feeding::FirstAt))]
+fn pin_stop(held: Blocks, x: u16, y: u16, pin: u8) -> Result<(), Stop>
+    requires fits { Fits held }
+    requires short { x < 65535 }
+    requires low { y < 65535 }
     ensures { StopsPin held x y pin result }
 {
     match round(held, x, y) {
-        Found::At(i) => Stop {
-            code: 11,
-            pin: pin,
-            item: i,
-        },
-        Found::Nothing => near_wire(held, x, y, pin),
+        Some(item) => Err(Stop::AtPin(Refusal::PinInKeepOut, pin, item)),
+        None => near_wire(held, x, y, pin),
     }
 }
 
 // What two pins get before a wire is looked for.
-fn pins_stop(size: Size, held: Blocks, p: Pins) -> Stop
-    requires { Fits held × (size.w < 65535) × (size.h < 65535) }
+#[tactic(auto, using(crate::specs::Laws::Wiring::stop_off, crate::specs::Laws::Wiring::stop_one, crate::specs::Laws::Wiring::stop_first, crate::specs::Laws::Wiring::stop_second, paper::specs::Laws::Says::said, paper::specs::Laws::Says::said_not))]
+fn pins_stop(size: Size, held: Blocks, p: Pins) -> Result<(), Stop>
+    requires fits { Fits held }
+    requires short { size.w < 65535 }
+    requires low { size.h < 65535 }
     ensures { StopsPins size held p result }
 {
-    if !on_board(size, p) {
-        return no_stop(9);
+    if !both_on_board(size, p) {
+        return Err(Stop::Alone(Refusal::OffBoard));
     }
     if one_node(p) {
-        return no_stop(10);
+        return Err(Stop::Alone(Refusal::OneNode));
     }
-    let s = pin_stop(held, p.sx, p.sy, 1);
-    if s.code != 0 {
-        return s;
-    }
+    pin_stop(held, p.sx, p.sy, 1)?;
     pin_stop(held, p.tx, p.ty, 2)
 }
 
-// The id of the item at a place. It takes the items alone: a board would be copied whole.
-fn id_at(items: [Item; MOST_BLOCKS], i: usize) -> u16
-    requires { i < most_blocks }
-    ensures { result ≡ (get_or items i no_item).id }
+// The same with the item's id. It takes the items alone: a board would be copied whole.
+fn blame(items: [Item; MOST_BLOCKS], stop: Stop) -> Blame
+    requires { Placed stop }
+    ensures { result ≡ blame_of items stop }
 {
-    items[i].id
-}
-
-fn verdict(code: u8, pin: u8, id: u16) -> Verdict
-    ensures { result ≡ named code pin id }
-{
-    Verdict {
-        code: code,
-        place: pin,
-        id: id,
-    }
-}
-
-fn no_wire(said: Verdict) -> Wired
-    ensures { result ≡ no_wire said }
-{
-    Wired {
-        code: said.code,
-        pin: said.place,
-        id: said.id,
-        blocks: 0,
-        length: 0,
-        detour: 0,
-        corners: 0,
-        xs: [0u16; MOST_CORNERS],
-        ys: [0u16; MOST_CORNERS],
-    }
-}
-
-// What the router found, with the paper's code.
-fn tell(found: Routed, blocks: usize) -> Wired
-    ensures { result ≡ wired_of found blocks }
-{
-    let route = found.route;
-    match route {
-        Route::Wire(length, detour, corners) => {
-            let xs = found.xs;
-            let ys = found.ys;
-            Wired {
-                code: 0,
-                pin: 0,
-                id: 0,
-                blocks: blocks,
-                length: length,
-                detour: detour,
-                corners: corners,
-                xs: xs,
-                ys: ys,
-            }
+    match stop {
+        Stop::Alone(why) => Blame::from(why),
+        Stop::AtPin(why, pin, item) => {
+            let id = items[item].id;
+            Blame { why, pin, id }
         }
-        Route::NoWire => no_wire(verdict(12, 0, 0)),
-        Route::TooManyRuns(_) => no_wire(verdict(13, 0, 0)),
     }
 }
 
-// The answered wire between the question's pins, or the code that stands in its way.
-pub(crate) fn wire(board: Board, q: Question) -> Wired
+// The answered wire between the question's pins, or why there is none to tell.
+#[tactic(auto, using(blocks::specs::Laws::Board::drawn, blocks::specs::Laws::Held::held_fits, crate::proofs::BetweenPins::short_side, crate::proofs::BetweenPins::low_side, crate::proofs::BetweenPins::placed_stop, crate::proofs::BetweenPins::pins_refused, crate::proofs::BetweenPins::pins_free, crate::proofs::BetweenPins::wire_told, crate::proofs::BetweenPins::wire_untold))]
+pub(crate) fn wire(board: Board, q: Question) -> Result<Wired, Blame>
     requires { WellFormed board × (1 ≤ board.size.w) }
     ensures { Wires (layout_of board) q result }
 {
-    let p = q.pins;
-    let mode = q.mode;
     let held = of_board(board, true);
-    let stop = pins_stop(board.size, held, p);
-    if stop.pin != 0 {
-        let i = stop.item;
-        let items = board.items;
-        return no_wire(verdict(stop.code, stop.pin, id_at(items, i)));
+    if let Err(stop) = pins_stop(board.size, held, q.pins) {
+        return Err(blame(board.items, stop));
     }
-    if stop.code != 0 {
-        return no_wire(verdict(stop.code, 0, 0));
-    }
-    let found = find_wire(board.size, held, p, mode);
-    let last = held.items;
-    tell(found, held.first[last])
+    let wire = find_wire(board.size, held, q.pins, q.mode)?;
+    let blocks = held.first[held.items];
+    Ok(Wired { wire, blocks })
 }

@@ -1,48 +1,69 @@
-// An input, as the standard one, read into a lent room. A library, since more than one program does it.
+// An input, as the standard one, read into a lent room, and why a program that reads and prints breaks off. A library, since more than one
+// program does it.
 //
 // Which bytes a system call moves is assumed; that they lie within the room is proved.
 #![tactic(auto)]
 
-ghost use Rattle.std.specs.Prelude.{◌≡◌, ◌≤◌, length};
+ghost use Rattle.std.specs.Prelude.{◌≡◌, ◌≤◌, length, MatchResult};
+ghost use Rattle.input.specs.declared.Broken.TheVariants.{Unread};
 
+use std::fmt;
 use std::io::Read;
 
-// How many bytes were read, and whether a read failed.
-#[derive(Clone, Copy)]
-pub struct Input {
+// Room for 65,535 records of 12 bytes and one byte more, to see that input is left.
+pub const FILE_ROOM: usize = 786421;
+
+// A read failed: how much was read before.
+#[derive(Clone, Copy, PartialEq, Eq, Debug)]
+pub struct Failed {
     pub size: usize,
-    pub failed: bool,
 }
 
-// Reads until the room is full, the input ends or a read fails.
-pub fn read_all<R: Read>(source: &mut R, room: &mut [u8]) -> Input
-    ensures { result.size ≤ length room.new }
+// Reads until the room is full, the input ends or a read fails: how much was read.
+pub fn read_all<R: Read>(source: &mut R, room: &mut [u8]) -> Result<usize, Failed>
+    ensures { MatchResult result (λ size. size ≤ length room.new) (λ failed. failed.size ≤ length room.new) }
 {
     let mut done: usize = 0;
+    // No `for`: `done` counts the bytes that came, and a turn brings as many as the source gives.
     while done < room.len() {
-        let Ok(more) = source.read(&mut room[done..]) else {
-            return Input {
-                size: done,
-                failed: true,
-            };
-        };
+        let more = source
+            .read(&mut room[done..])
+            .map_err(|_| Failed { size: done })?;
         if more == 0 {
-            return Input {
-                size: done,
-                failed: false,
-            };
+            break;
         }
         done += more;
     }
-    Input {
-        size: done,
-        failed: false,
+    Ok(done)
+}
+
+// Why a program breaks off: a read failed, or a write did.
+#[derive(Clone, Copy, PartialEq, Eq, Debug)]
+pub enum Broken {
+    Unread,
+    Unwritten,
+}
+
+impl fmt::Display for Broken {
+    fn fmt<W: fmt::Write>(&self, f: &mut fmt::Formatter<W>) -> fmt::Result {
+        match self {
+            Broken::Unread => write!(f, "standard input cannot be read"),
+            Broken::Unwritten => write!(f, "standard output cannot be written"),
+        }
     }
 }
 
-// 65,536 zeros, for what moves much data.
-pub fn large_buffer() -> [u8; 65536]
-    ensures { 65536 ≡ length result }
+impl From<Failed> for Broken {
+    ghost from_gives = { λ _ broken. broken ≡ Unread };
+
+    fn from(_failed: Failed) -> Broken {
+        Broken::Unread
+    }
+}
+
+// So many zeros, for what moves much data.
+pub fn zeros<const N: usize>() -> [u8; N]
+    ensures { N ≡ length result }
 {
-    [0; 65536]
+    [0; N]
 }

@@ -1,6 +1,6 @@
 -- What is found on a board, and what it holds afterwards: layouts as the paper has them.
 -- Assumes nothing.
-use Rattle.std.specs.Prelude.{ℕ, ◌≤◌, ◌<◌, ◌≡◌, cond, List, [], ◌∷◌, ◌++◌, length, drop, eqb}
+use Rattle.std.specs.Prelude.{ℕ, ◌≤◌, ◌<◌, ◌≡◌, cond, List, [], ◌∷◌, ◌++◌, length, drop, eqb, Option, Some, None}
 use Rattle.paper.specs.declared.Item.{Item}
 use Rattle.paper.specs.declared.Change.{Change}
 use Rattle.paper.specs.declared.Board.{Board}
@@ -10,15 +10,13 @@ use Rattle.paper.specs.Padding.{filled, item_of, no_item, change_of, board_of}
 use Rattle.paper.specs.Laws.Back.{thing_of, turn_of}
 use Rattle.paper.specs.Laws.Filled.{put_at, left_at}
 use Rattle.paper.specs.Laws.Standing.{thing_at}
-use Rattle.items.specs.declared.Found.{Found}
-use Rattle.items.specs.declared.Found.TheVariants.{At, Free}
 
 -- ---- what is found
 
 -- the first item with the id, or that none has it
-unfoldable pub IdAt : List Thing → ℕ → Found → Type 0
-IdAt ts i (At k) = (k < length ts) × (id_of (thing_at ts k) ≡ i) × ((j : ℕ) → j < k → ¬ (id_of (thing_at ts j) ≡ i))
-IdAt ts i Free = ¬ (Used ts i)
+unfoldable pub IdAt : List Thing → ℕ → Option ℕ → Type 0
+IdAt ts i (Some k) = (k < length ts) × (id_of (thing_at ts k) ≡ i) × ((j : ℕ) → j < k → ¬ (id_of (thing_at ts j) ≡ i))
+IdAt ts i None = ¬ (Used ts i)
 
 -- the items before k have lower ids, and that at k, if there is one, has not
 pub record PlaceIs (ts : List Thing) (i k : ℕ) : Type 0 where
@@ -59,7 +57,7 @@ kind_for runs = cond (eqb runs 0) 2 3
 
 -- the item at k is the first that has its id
 abbrev pub TheFirst : List Thing → ℕ → Type 0
-TheFirst ts k = IdAt ts (id_of (thing_at ts k)) (At k)
+TheFirst ts k = IdAt ts (id_of (thing_at ts k)) (Some k)
 
 -- there is room for one item more
 abbrev pub Room : Layout → Type 0

@@ -6,6 +6,7 @@ pub mod Layout
 pub mod Padding
 pub mod Reading
 pub mod Answer
+pub mod Codes
 pub mod History
 pub mod TableP
 pub mod Copper

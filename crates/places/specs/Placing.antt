@@ -1,6 +1,6 @@
 -- What is said of the runs of a wire, in the paper's words.
 -- Assumes nothing.
-use Rattle.std.specs.Prelude.{ℕ, ◌+◌, ◌≡◌}
+use Rattle.std.specs.Prelude.{ℕ, ◌+◌, ◌≡◌, Result}
 use Rattle.paper.specs.declared.Size.{Size}
 use Rattle.paper.specs.declared.Item.{Item}
 use Rattle.paper.specs.Grid.{Axis, All}
@@ -26,11 +26,11 @@ SomeHeld s b = (l : Layout) × (l.size ≡ s) × HeldOf b wires l × All (ThingF
 abbrev pub Straight : Item → ℕ → Type 0
 Straight m k = (a : Axis) × Along a (stretch_at m k)
 
-unfoldable pub RunSays : Size → Blocks → Item → ℕ → Fault → Type 0
+unfoldable pub RunSays : Size → Blocks → Item → ℕ → Result (Unit {0}) Fault → Type 0
 RunSays s b m k r = OnHeld s b (λ l. Gives (run_check l (k + 1) (corner_at m k) (corner_at m (k + 1))) (fault_of r))
 
-unfoldable pub PlacesSay : Size → Blocks → Item → ℕ → Fault → Type 0
+unfoldable pub PlacesSay : Size → Blocks → Item → ℕ → Result (Unit {0}) Fault → Type 0
 PlacesSay s b m n r = OnHeld s b (λ l. Gives (run_checks l 1 (corners_of m (n + 1))) (fault_of r))
 
-unfoldable pub AllSay : Size → Blocks → Item → ℕ → Fault → Type 0
+unfoldable pub AllSay : Size → Blocks → Item → ℕ → Result (Unit {0}) Fault → Type 0
 AllSay s b m n r = OnHeld s b (λ l. Gives (corner_checks l (corners_of m (n + 1))) (fault_of r))

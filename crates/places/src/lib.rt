@@ -2,8 +2,8 @@
 // laid wire. It asks no search, so that document 02's order 7 can test a wire that is only read.
 #![tactic(auto)]
 
-ghost use Rattle.std.specs.Prelude.{ℕ, ◌<◌, ◌≤◌};
-ghost use Rattle.paper.specs.Limits.{most_runs, most_corners};
+ghost use Rattle.std.specs.Prelude.{ℕ, ◌+◌, ◌<◌, ◌≤◌};
+ghost use Rattle.paper.specs.Limits.{most_runs};
 ghost use Rattle.paper.specs.Layout.{OnBoard};
 ghost use Rattle.paper.specs.Laws.Says.{Says};
 ghost use Rattle.blocks.specs.Growing.{corner_at};
@@ -11,66 +11,59 @@ ghost use Rattle.seams.specs.Seaming.{Keeps};
 ghost use Rattle.places.specs.Placing.{SomeHeld, Straight, RunSays, PlacesSay, AllSay};
 
 use blocks::{Blocks, Look, hit, stretch};
-use paper::{Item, Size};
+use paper::{Item, Refusal, Size};
 use seams::entered;
-use shapes::{Fault, bad_shape, fault_at};
+use shapes::{Fault, bad_shape, fault_at, on_board};
 
-// The item's corner k lies on the board.
-fn on_board(size: Size, item: Item, k: usize) -> bool
-    requires { k < most_corners }
-    ensures { Says result (OnBoard size (corner_at item k)) }
+// Both corners of the run at k lie on the board.
+fn ends_on(size: Size, item: Item, k: usize) -> bool
+    requires { k < most_runs }
+    ensures { Says result (OnBoard size (corner_at item k) × OnBoard size (corner_at item (k + 1))) }
 {
-    if item.xs[k] > size.w {
-        return false;
-    }
-    item.ys[k] <= size.h
+    on_board(size, item.xs[k], item.ys[k]) && on_board(size, item.xs[k + 1], item.ys[k + 1])
 }
 
 // What stands in the way of the run at k.
-fn run_fault(size: Size, held: Blocks, item: Item, k: usize) -> Fault
-    requires { Keeps held × (k < most_runs) × Straight item k }
+#[tactic(auto, using(crate::specs::Laws::off_board, crate::specs::Laws::keep_out_there, crate::specs::Laws::wire_there, crate::specs::Laws::none_there, paper::specs::Laws::Says::said, paper::specs::Laws::Says::said_not))]
+fn run_fault(size: Size, held: Blocks, item: Item, k: usize) -> Result<(), Fault>
+    requires keeps { Keeps held }
+    requires few { k < most_runs }
+    requires straight { Straight item k }
     ensures { RunSays size held item k result }
 {
-    if !on_board(size, item, k) {
-        return fault_at(9, k);
-    }
-    if !on_board(size, item, k + 1) {
-        return fault_at(9, k);
+    if !ends_on(size, item, k) {
+        return Err(fault_at(Refusal::OffBoard, k));
     }
     let place = stretch(item, k);
     if entered(held, place) {
-        return fault_at(20, k);
+        return Err(fault_at(Refusal::RunInKeepOut, k));
     }
     if hit(held, Look::Wires, place) {
-        return fault_at(24, k);
+        return Err(fault_at(Refusal::RunNearWire, k));
     }
-    Fault { code: 0, run: 0 }
+    Ok(())
 }
 
 // The first of the item's n runs that something stands in the way of.
-fn bad_run(size: Size, held: Blocks, item: Item, n: usize) -> Fault
-    requires { Keeps held × (n ≤ most_runs) × ((k : ℕ) → k < n → Straight item k) }
+#[tactic(auto, using(crate::specs::Laws::left_start, crate::specs::Laws::left_stop, crate::specs::Laws::left_next, crate::specs::Laws::left_end))]
+fn bad_run(size: Size, held: Blocks, item: Item, n: usize) -> Result<(), Fault>
+    requires keeps { Keeps held }
+    requires few { n ≤ most_runs }
+    requires straight { (k : ℕ) → k < n → Straight item k }
     ensures { PlacesSay size held item n result }
 {
-    let mut k: usize = 0;
-    while k < n {
-        let fault = run_fault(size, held, item, k);
-        if fault.code != 0 {
-            return fault;
-        }
-        k += 1;
+    for k in 0..n {
+        run_fault(size, held, item, k)?;
     }
-    Fault { code: 0, run: 0 }
+    Ok(())
 }
 
 // All that is said of the item's n runs, but its excess.
-pub fn fault_of(size: Size, held: Blocks, item: Item, n: usize) -> Fault
+#[tactic(auto, using(crate::specs::Laws::ill_shaped, crate::specs::Laws::well_shaped, crate::specs::Laws::straight_runs, seams::specs::Laws::Closing::held_keeps))]
+pub fn fault_of(size: Size, held: Blocks, item: Item, n: usize) -> Result<(), Fault>
     requires { SomeHeld size held × (n ≤ most_runs) }
     ensures { AllSay size held item n result }
 {
-    let shape = bad_shape(item, n);
-    if shape.code != 0 {
-        return shape;
-    }
+    bad_shape(item, n)?;
     bad_run(size, held, item, n)
 }

@@ -2,4 +2,3 @@
 pub mod Filled
 -- what the proofs share
 pub mod Filling
-pub mod Turns

@@ -7,19 +7,11 @@
 ghost use Rattle.std.specs.Prelude.{◌≡◌, ◌≤◌, length};
 ghost use Rattle.printer.specs.Filled.{Within, Fills, AllPrinted, HoldsLast};
 
-use input::{large_buffer, read_all};
+use input::{Broken, FILE_ROOM, read_all, zeros};
 use paper::Board;
 use sheet::{LINE_ROOM, put_last, start, step};
+use std::io;
 use std::io::{Read, Write};
-
-// ---- reading
-
-// Room for 65,535 records and one byte more, to see that input is left.
-fn file_room() -> [u8; 786421]
-    ensures { 786421 ≡ length result }
-{
-    [0; 786421]
-}
 
 // ---- printing
 
@@ -37,64 +29,65 @@ fn fill(file: &[u8], from: Place, out: &mut [u8]) -> Place
     requires { Within file.now from.at from.records from.board }
     ensures { Fills file.now from out.old out.new result }
 {
-    let mut at = from.at;
-    let mut records = from.records;
-    let mut waiting: usize = 0;
-    let mut board = from.board;
-    while at < file.len() && records < 65535 && out.len() - waiting >= LINE_ROOM {
-        records += 1;
-        let line = step(file, at, records, board, &mut out[waiting..]);
-        at = line.next;
-        waiting += line.written;
-        board = line.board;
+    let mut place = Place { waiting: 0, ..from };
+    // No `for`: a turn goes on by a whole record in the file and by a whole line in the buffer, and no index is counted.
+    while place.at < file.len() && place.records < 65535 && out.len() - place.waiting >= LINE_ROOM {
+        let line = step(
+            file,
+            place.at,
+            place.records + 1,
+            place.board,
+            &mut out[place.waiting..],
+        );
+        place = Place {
+            at: line.next,
+            records: place.records + 1,
+            waiting: place.waiting + line.written,
+            board: line.board,
+        };
     }
-    Place {
-        at: at,
-        records: records,
-        waiting: waiting,
-        board: board,
-    }
+    place
 }
 
-// The last line, by way of the buffer, once every record is printed and the place is `at`. Whether it could be written.
-fn finish<W: Write>(sink: &mut W, file: &[u8], at: usize, out: &mut [u8]) -> bool
+// The last line, by way of the buffer, once every record is printed and the place is `at`.
+fn finish<W: Write>(sink: &mut W, file: &[u8], at: usize, out: &mut [u8]) -> io::Result<()>
     requires { AllPrinted file.now at × (4 ≤ length out.old) }
     ensures { HoldsLast file.now at out.old out.new }
 {
     let n = put_last(out, at < file.len());
-    sink.write_all(&out[..n]).is_ok()
+    sink.write_all(&out[..n])
 }
 
-// All lines, a buffer of them at a time. Whether they could be written.
-fn print<W: Write>(sink: &mut W, file: &[u8]) -> bool {
-    let mut out = large_buffer();
+// All lines, a buffer of them at a time.
+fn print<W: Write>(sink: &mut W, file: &[u8]) -> io::Result<()> {
+    let mut out = zeros::<65536>();
     let mut place = Place {
         at: 0,
         records: 0,
         waiting: 0,
         board: start(),
     };
-    let mut more = true;
-    while more {
+    loop {
         let before = place.records;
         place = fill(file, place, &mut out);
-        if sink.write_all(&out[..place.waiting]).is_err() {
-            return false;
+        sink.write_all(&out[..place.waiting])?;
+        if place.records == before {
+            break;
         }
-        more = place.records > before;
     }
     finish(sink, file, place.at, &mut out)
 }
 
+// All records of an input, printed.
+fn print_input<R: Read, W: Write>(source: &mut R, sink: &mut W) -> Result<(), Broken> {
+    let mut room = zeros::<FILE_ROOM>();
+    let size = read_all(source, &mut room)?;
+    print(sink, &room[..size]).map_err(|_| Broken::Unwritten)
+}
+
 // All records of standard input, printed on standard output. Where a read or a write fails, a line on standard error says so.
 pub fn run<R: Read, W: Write>(source: &mut R, sink: &mut W, rt: &impl Eprint) {
-    let mut room = file_room();
-    let input = read_all(source, &mut room);
-    if input.failed {
-        let _ = rt.eprintln("sheet: standard input cannot be read");
-        return;
-    }
-    if !print(sink, &room[..input.size]) {
-        let _ = rt.eprintln("sheet: standard output cannot be written");
+    if let Err(broken) = print_input(source, sink) {
+        let _ = eprintln!(rt; "sheet: {broken}");
     }
 }

@@ -1,9 +1,9 @@
 -- How a row is shown: the record that the kind can name is the only one to look at.
 -- Assumes nothing.
-use Rattle.std.specs.Prelude.{ℕ, zero, suc, ◌≡◌, refl, Bool, true, false, List, length, get_or}
+use Rattle.std.specs.Prelude.{ℕ, zero, suc, ◌≡◌, refl, List, length, get_or}
 use Rattle.std.proofs.Common.{arith, sym, ap, subst, ◌∙◌, inl, inr, ⊎_elim}
 use Rattle.records.specs.declared.Numbers.{Numbers}
-use Rattle.records.specs.Row.{with_kind, asked, Row, Blank, SaysBlank}
+use Rattle.records.specs.Row.{with_kind, asked, Row, Blank}
 use Rattle.paper.specs.declared.Mode.{Mode}
 use Rattle.paper.specs.declared.Mode.TheVariants as mode
 use Rattle.paper.specs.declared.Record.{Record}
@@ -24,23 +24,23 @@ row_none k n h = inr (
       h (subst Plain same p) (subst (λ r. with_kind k n ≡ fields_of r) same e),
 )
 
-pub said_blank : (n : Numbers) (b : Bool) → SaysBlank n b → b ≡ true → Blank n
-unfolding SaysBlank
-said_blank n b s e = subst (SaysBlank n) e s
-
-pub said_not : (n : Numbers) (b : Bool) → SaysBlank n b → b ≡ false → ¬ (Blank n)
-unfolding SaysBlank
-said_not n b s e = subst (SaysBlank n) e s
-
 -- ---- a row each
 
 pub row_bounds : (n : Numbers) → n.id ≡ 0 → n.d ≡ 0 → Row 1 n (Bounds (record { w = n.a; h = n.b; clearance = n.c }))
 unfolding Plain fields_of
 row_bounds n i d = row_is 1 n _ tt (λ k. fields 1 (i k) n.a n.b n.c (d k))
 
+pub no_bounds : (n : Numbers) → ¬ ((n.id ≡ 0) × (n.d ≡ 0)) → Row 1 n Malformed
+unfolding by_kind fields_of
+no_bounds n h = row_none 1 n (λ p e. h (ap (λ f. f.id) e, ap (λ f. f.d) e))
+
 pub row_keep_out : (n : Numbers) → ¬ (n.id ≡ 0) → Row 2 n (KeepOut (record { number = n.id }) (record { x0 = n.a; y0 = n.b; x1 = n.c; y1 = n.d }))
 unfolding Plain fields_of
 row_keep_out n i = row_is 2 n _ (omega arith) refl
+
+pub no_keep_out : (n : Numbers) → n.id ≡ 0 → Row 2 n Malformed
+unfolding by_kind Plain
+no_keep_out n z = row_none 2 n (λ p e. omega (arith, p))
 
 pub row_lay : (m : Mode) (n : Numbers) → ¬ (n.id ≡ 0) → Row (lay_kind m) n (Lay (record { number = n.id }) (asked m n))
 unfolding Plain fields_of
@@ -60,17 +60,25 @@ unfolding by_kind fields_of
 no_ask mode.Plain n i = row_none 4 n (λ p e. i (ap (λ f. f.id) e))
 no_ask mode.Fewest n i = row_none 8 n (λ p e. i (ap (λ f. f.id) e))
 
+-- the fields of a record whose four numbers are 0
+pub blank_of : (n : Numbers) (k j : ℕ) → with_kind k n ≡ fields k j 0 0 0 0 → Blank n
+blank_of n k j e = (ap (λ f. f.a) e, ap (λ f. f.b) e, ap (λ f. f.c) e, ap (λ f. f.d) e)
+
 pub row_take_out : (n : Numbers) → ¬ (n.id ≡ 0) → Blank n → Row 5 n (TakeOut (record { number = n.id }))
 unfolding Plain fields_of
 row_take_out n i z = row_is 5 n _ (omega arith) (λ k. fields 5 n.id (z.0 k) (z.1 k) (z.2 k) (z.3 k))
+
+pub no_take_out : (n : Numbers) → ¬ ((¬ (n.id ≡ 0)) × Blank n) → Row 5 n Malformed
+unfolding by_kind Plain fields_of
+no_take_out n h = row_none 5 n (λ p e. h ((λ z. omega (arith, p)), blank_of n 5 n.id e))
 
 pub row_undo : (n : Numbers) → n.id ≡ 0 → Blank n → Row 6 n Undo
 unfolding Plain fields_of
 row_undo n i z = row_is 6 n _ tt (λ k. fields 6 (i k) (z.0 k) (z.1 k) (z.2 k) (z.3 k))
 
--- the fields of a record whose four numbers are 0
-pub blank_of : (n : Numbers) (k j : ℕ) → with_kind k n ≡ fields k j 0 0 0 0 → Blank n
-blank_of n k j e = (ap (λ f. f.a) e, ap (λ f. f.b) e, ap (λ f. f.c) e, ap (λ f. f.d) e)
+pub no_undo : (n : Numbers) → ¬ ((n.id ≡ 0) × Blank n) → Row 6 n Malformed
+unfolding by_kind fields_of
+no_undo n h = row_none 6 n (λ p e. h (ap (λ f. f.id) e, blank_of n 6 0 e))
 
 -- a kind that is none of 1 to 6, 8 and 9
 pub row_zero : (n : Numbers) → Row 0 n Malformed

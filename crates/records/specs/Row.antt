@@ -1,6 +1,6 @@
 -- One row of the paper's table: which record a kind, an id and four numbers are.
 -- Assumes nothing.
-use Rattle.std.specs.Prelude.{ℕ, ◌≡◌, Bool, true, false, ◌⊎◌}
+use Rattle.std.specs.Prelude.{ℕ, ◌≡◌, ◌⊎◌}
 use Rattle.records.specs.declared.Numbers.{Numbers}
 use Rattle.paper.specs.declared.Mode.{Mode}
 use Rattle.paper.specs.declared.Question.{Question}
@@ -22,8 +22,3 @@ Row k n r = (Plain r × (with_kind k n ≡ fields_of r)) ⊎ ((r ≡ Malformed) 
 -- the four numbers are 0
 abbrev pub Blank : Numbers → Type 0
 Blank n = (n.a ≡ 0) × (n.b ≡ 0) × (n.c ≡ 0) × (n.d ≡ 0)
-
--- and the answer says whether they are
-unfoldable pub SaysBlank : Numbers → Bool → Type 0
-SaysBlank n true = Blank n
-SaysBlank n false = ¬ (Blank n)

@@ -3,7 +3,8 @@
 
 ghost use Rattle.std.specs.Prelude.{◌≡◌, ◌+◌, ◌<◌, length};
 ghost use Rattle.paper.specs.Reading.{word, lay_kind, ask_kind, Reads};
-ghost use Rattle.records.specs.Row.{asked, Row, SaysBlank};
+ghost use Rattle.paper.specs.Laws.Says.{Says};
+ghost use Rattle.records.specs.Row.{asked, Row, Blank};
 
 use paper::{Id, Mode, Pins, Question, Record, Rect, Size};
 
@@ -17,39 +18,31 @@ struct Numbers {
     d: u16,
 }
 
-fn wide(x: u8) -> u16
-    ensures { (result ≡ x) × (result < 256) }
-{
-    x as u16
-}
-
 // The 16-bit number that starts at a byte, little-endian.
 pub fn number(bytes: &[u8], at: usize) -> u16
     requires { at + 1 < length bytes.now }
     ensures { result ≡ word bytes.now at }
 {
-    let low = wide(bytes[at]);
-    let high = wide(bytes[at + 1]);
-    low + 256 * high
+    u16::from_le_bytes([bytes[at], bytes[at + 1]])
 }
 
 // ---- a row of the paper's table each
 
+#[tactic(auto, using(crate::specs::Laws::row_bounds, crate::specs::Laws::no_bounds))]
 fn bounds(n: Numbers) -> Record
     ensures { Row 1 n result }
 {
-    if n.id == 0 {
-        if n.d == 0 {
-            return Record::Bounds(Size {
-                w: n.a,
-                h: n.b,
-                clearance: n.c,
-            });
-        }
+    if n.id != 0 || n.d != 0 {
+        return Record::Malformed;
     }
-    Record::Malformed
+    Record::Bounds(Size {
+        w: n.a,
+        h: n.b,
+        clearance: n.c,
+    })
 }
 
+#[tactic(auto, using(crate::specs::Laws::row_keep_out, crate::specs::Laws::no_keep_out))]
 fn keep_out(n: Numbers) -> Record
     ensures { Row 2 n result }
 {
@@ -78,10 +71,11 @@ fn question(n: Numbers, mode: Mode) -> Question
             tx: n.c,
             ty: n.d,
         },
-        mode: mode,
+        mode,
     }
 }
 
+#[tactic(auto, using(crate::specs::Laws::row_lay, crate::specs::Laws::no_lay))]
 fn lay(n: Numbers, mode: Mode) -> Record
     ensures { Row (lay_kind mode) n result }
 {
@@ -91,54 +85,44 @@ fn lay(n: Numbers, mode: Mode) -> Record
     Record::Lay(Id { number: n.id }, question(n, mode))
 }
 
+#[tactic(auto, using(crate::specs::Laws::row_ask, crate::specs::Laws::no_ask))]
 fn ask(n: Numbers, mode: Mode) -> Record
     ensures { Row (ask_kind mode) n result }
 {
-    if n.id == 0 {
-        return Record::Ask(question(n, mode));
+    if n.id != 0 {
+        return Record::Malformed;
     }
-    Record::Malformed
+    Record::Ask(question(n, mode))
 }
 
 // Whether the four numbers are 0.
 fn blank(n: Numbers) -> bool
-    ensures { SaysBlank n result }
+    ensures { Says result (Blank n) }
 {
-    if n.a == 0 {
-        if n.b == 0 {
-            if n.c == 0 {
-                if n.d == 0 {
-                    return true;
-                }
-            }
-        }
-    }
-    false
+    n.a == 0 && n.b == 0 && n.c == 0 && n.d == 0
 }
 
+#[tactic(auto, using(crate::specs::Laws::row_take_out, crate::specs::Laws::no_take_out))]
 fn take_out(n: Numbers) -> Record
     ensures { Row 5 n result }
 {
-    if n.id == 0 {
+    if n.id == 0 || !blank(n) {
         return Record::Malformed;
     }
-    if blank(n) {
-        return Record::TakeOut(Id { number: n.id });
-    }
-    Record::Malformed
+    Record::TakeOut(Id { number: n.id })
 }
 
+#[tactic(auto, using(crate::specs::Laws::row_undo, crate::specs::Laws::no_undo))]
 fn undo(n: Numbers) -> Record
     ensures { Row 6 n result }
 {
-    if n.id == 0 {
-        if blank(n) {
-            return Record::Undo;
-        }
+    if n.id != 0 || !blank(n) {
+        return Record::Malformed;
     }
-    Record::Malformed
+    Record::Undo
 }
 
+// The kind is the record's byte: the match on it, with a range for unknown kinds, is document 01's form.
 #[tactic(auto, using(crate::specs::Laws::row_zero, crate::specs::Laws::row_seven, crate::specs::Laws::row_rest))]
 fn by_kind(kind: u8, n: Numbers) -> Record
     ensures { Row kind n result }
@@ -161,11 +145,7 @@ fn by_kind(kind: u8, n: Numbers) -> Record
 pub fn read(bytes: &[u8]) -> Record
     ensures { Reads bytes.now result }
 {
-    if bytes.len() != 12 {
-        return Record::Malformed;
-    }
-    let kind = bytes[0];
-    if bytes[1] != 0 {
+    if bytes.len() != 12 || bytes[1] != 0 {
         return Record::Malformed;
     }
     let n = Numbers {
@@ -175,5 +155,5 @@ pub fn read(bytes: &[u8]) -> Record
         c: number(bytes, 8),
         d: number(bytes, 10),
     };
-    by_kind(kind, n)
+    by_kind(bytes[0], n)
 }

@@ -1,13 +1,13 @@
 -- The chart of marked ways is the grid of crossings, and a table of distances over it is what the theorems of `walks` ask of a search.
 -- Assumes nothing.
-use Prim.Native.Nat.{ℕ, zero, suc, pred, ◌+◌, ◌-◌, ◌≤◌, ◌<◌}
+use Prim.Native.Nat.{ℕ, suc, pred, ◌+◌, ◌-◌, ◌≤◌, ◌<◌}
 use Rattle.std.proofs.Common.{add-one, ◌∙◌}
 use native.Mathlib.Omega.{arith}
 use Rattle.std.proofs.Math.Decide.{dec_lt}
-use Rattle.std.specs.Prelude.{◌≡◌, refl, ◌↔◌, List, ◌++◌, replicate}
+use Rattle.std.specs.Prelude.{◌≡◌, refl, ◌↔◌, Option, Some, None, List, ◌++◌, replicate}
 use Rattle.std.proofs.Math.Path.{sym, ap, subst}
 use Rattle.std.proofs.Math.ListN.{get_or}
-use Rattle.paper.specs.Grid.{Node, Dir, E, N, W, S, rank, step, Axis, level, upright, Grid, Edge, Free, Block, Blocked, edge, grid_with}
+use Rattle.paper.specs.Grid.{Node, Dir, E, N, W, S, step, Axis, level, upright, Grid, Edge, Free, Block, Blocked, edge, grid_with}
 use Rattle.paper.specs.Wire.{gap}
 use Rattle.paper.specs.Laws.Steps.{axis_of}
 use Rattle.distances.specs.Lower.{none}
@@ -24,19 +24,10 @@ use Rattle.walks.specs.Search as search
 use Rattle.walks.specs.Search.{Searched}
 use Rattle.walks.specs.Route.{tracks}
 
--- how a wire has come, by the rank of its last direction; 4 where it begins
-abbrev pub came_of : ℕ → Came
-came_of zero = by level
-came_of (suc zero) = by upright
-came_of (suc (suc zero)) = by level
-came_of (suc (suc (suc zero))) = by upright
-came_of (suc (suc (suc (suc n)))) = fresh
-
-came_rank : (e : Dir) → by (axis_of e) ≡ came_of (rank e)
-came_rank E = refl
-came_rank N = refl
-came_rank W = refl
-came_rank S = refl
+-- how a wire has come, by its last direction
+abbrev pub came_of : Option Dir → Came
+came_of None = fresh
+came_of (Some e) = by (axis_of e)
 
 pub fee_same : (τ : ℕ) (a b : Axis) → fee τ a b ≡ turning τ a b
 fee_same τ level level = refl
@@ -44,12 +35,9 @@ fee_same τ level upright = refl
 fee_same τ upright level = refl
 fee_same τ upright upright = refl
 
-bend_same : (τ came : ℕ) (b : Axis) → bend τ (came_of came) b ≡ bend_from τ came b
-bend_same τ zero b = fee_same τ level b
-bend_same τ (suc zero) b = fee_same τ upright b
-bend_same τ (suc (suc zero)) b = fee_same τ level b
-bend_same τ (suc (suc (suc zero))) b = fee_same τ upright b
-bend_same τ (suc (suc (suc (suc n)))) b = refl
+bend_same : (τ : ℕ) (came : Option Dir) (b : Axis) → bend τ (came_of came) b ≡ bend_from τ came b
+bend_same τ None b = refl
+bend_same τ (Some e) b = fee_same τ (axis_of e) b
 
 -- the tracks of a list
 abbrev pub tracks_in : List ℕ → ℕ → Tracks
@@ -121,22 +109,22 @@ module _ (w h : ℕ) (bs : List Block) (m : Map) (k : Marks w h bs m) where
 
     -- through a table of turns at any price
     module _ (τ : ℕ) (c : List ℕ) where
-      fits_iff : (m' : Came) (left came : ℕ) → m' ≡ came_of came → (q : Node) (e : Dir)
-          → trail.Fits m d (toll τ c) came left q e ↔ tables.Fits τ G T D (dues τ c) m' left q e
-      fits_iff m' left came em q e =
-          let b : bend τ m' (axis_of e) ≡ bend_from τ came (axis_of e) = ap (λ k. bend τ k (axis_of e)) em ∙ bend_same τ came (axis_of e) in (
+      fits_iff : (left : ℕ) (came : Option Dir) (q : Node) (e : Dir)
+          → trail.Fits m d (toll τ c) came left q e ↔ tables.Fits τ G T D (dues τ c) (came_of came) left q e
+      fits_iff left came q e =
+          let b : bend τ (came_of came) (axis_of e) ≡ bend_from τ came (axis_of e) = bend_same τ came (axis_of e) in (
             λ f. let l = (leads_iff q e).0 f.leads in record { clear = l.clear; nearer = l.nearer; turns = omega (arith, f.turns, b) },
             λ f. record { leads = (leads_iff q e).1 (record { clear = f.clear; nearer = f.nearer }); turns = omega (arith, f.turns, b) },
           )
 
-      pub trail_of : (g : Node) (m' : Came) (left came : ℕ) → m' ≡ came_of came → (q : Node) (v : List Dir)
+      pub trail_of : (g : Node) (m' : Came) (left : ℕ) (came : Option Dir) → m' ≡ came_of came → (q : Node) (v : List Dir)
           → tables.Trace τ G T D (dues τ c) g m' left q v → trail.Trail m d (toll τ c) g came left q v
       trail_of g m' left came em q v tables.stop = trail.stop
       trail_of g m' left came em q v (tables.go {d = e} {rest = rest} f others t) =
-          let k = (fits_iff m' left came em q e).1 f in
+          let k = (fits_iff left came q e).1 (subst (λ n. tables.Fits τ G T D (dues τ c) n left q e) em f) in
           subst (λ n. trail.Trail m d (toll τ c) g came left q (replicate n e ++ rest)) (far_same q e k.leads.clear)
-          (trail.go k (λ f r z. others f r ((fits_iff m' left came em q f).0 z))
-          (trail_of g (by (axis_of e)) (dues τ c (axis_of e) (step e q)) (rank e) (came_rank e) (step e q) rest t))
+          (trail.go k (λ f r z. others f r (subst (λ n. tables.Fits τ G T D (dues τ c) n left q f) (sym em) ((fits_iff left came q f).0 z)))
+          (trail_of g (by (axis_of e)) (dues τ c (axis_of e) (step e q)) (Some e) refl (step e q) rest t))
 
     -- ---- an open way is a step on the chart
 

@@ -1,6 +1,6 @@
 -- From the tracks, the marks and the distances to the answered wire on the whole grid.
 -- Assumes nothing.
-use Rattle.std.specs.Prelude.{ℕ, ◌+◌, ◌-◌, ◌*◌, ◌/◌, ◌≤◌, ◌<◌, ◌≡◌, List, [], ◌∷◌, length}
+use Rattle.std.specs.Prelude.{ℕ, ◌+◌, ◌-◌, ◌*◌, ◌/◌, ◌≤◌, ◌<◌, ◌≡◌, None, Result, Err, List, [], ◌∷◌, length}
 use Rattle.std.proofs.Common.{arith, ◌∙◌}
 use Rattle.std.proofs.Math.Decide.{dec_lt, dec_le}
 use Rattle.std.proofs.Math.Nat.{mul-div_cancel_left}
@@ -16,7 +16,7 @@ use Rattle.paper.specs.Laws.Detour.{length_detour}
 use Rattle.paper.specs.Laws.Least.{in_legal}
 use Rattle.distances.specs.Lower.{none}
 use Rattle.distances.specs.Ways.{cell, Map, Distances}
-use Rattle.trace.specs.declared.At.{At}
+use Rattle.tracks.specs.declared.At.{At}
 use Rattle.trace.specs.Trail.{crossing, distance, spot, Toll, toll, dues, Trail, Charted}
 use Rattle.bends.specs.Table.{On}
 use Rattle.walks.specs.Tracks.{Tracks}
@@ -28,11 +28,12 @@ use Rattle.walks.specs.Onward.{Begins}
 use Rattle.walks.specs.Modes.{price_of, best_in}
 use Rattle.walks.specs.Route.{tracks}
 use Rattle.walks.proofs.Route.{route, some_route, no_route}
-use Rattle.router.specs.declared.Routed.{Routed}
-use Rattle.router.specs.declared.Route.TheVariants.{Wire, NoWire, TooManyRuns}
+use Rattle.router.specs.declared.Wire.{Wire}
+use Rattle.router.specs.declared.Untold.{Untold}
+use Rattle.router.specs.declared.Untold.TheVariants.{NoWire, TooManyRuns}
 use Rattle.router.specs.Route.{AnswersIn, Found, Written}
 use Rattle.router.specs.One.{answers_of}
-use Rattle.router.specs.Told.{detour_for, silence, telling, Tells, Lent, ToldIn}
+use Rattle.router.specs.Told.{detour_for, telling, Tells, Lent, ToldIn}
 use Rattle.router.specs.Bent.{seen_in, counted_in}
 use Rattle.router.specs.Charts.{tracks_in, Marks, trail_of, searched_all}
 
@@ -41,7 +42,7 @@ pub record Got (A : List Dir → Type 0) (m : Map) (d : List ℕ) (o : Toll) (le
   pub word : List Dir
   pub answered : A word
   pub long : length word ≡ distance d (crossing s)
-  pub trail : Trail m d o (crossing t) 4 left (crossing s) word
+  pub trail : Trail m d o (crossing t) None left (crossing s) word
 
 module _ (w h : ℕ) (bs : List Block) (m : Map) (k : Marks w h bs m)
     (tracked : All (BlockTracked (tracks (tracks_in m.xs m.nx) (tracks_in m.ys m.ny)) (grid_with w h bs)) bs)
@@ -70,7 +71,7 @@ module _ (w h : ℕ) (bs : List Block) (m : Map) (k : Marks w h bs m)
         answered = best_in o G a b l.0
             (route k.rise_x k.rise_y bs tracked a b (crossing s) (crossing t) start end on (price_of o) (dues (price_of o) c) done seen n begins (omega arith) l.0 l.1);
         long = tables.trace_length (price_of o) G T (distance d) (dues (price_of o) c) (crossing t) dist.target fresh n (crossing s) l.0 l.1;
-        trail = trail_of w h bs m k d (price_of o) c (crossing t) fresh n 4 refl (crossing s) l.0 l.1;
+        trail = trail_of w h bs m k d (price_of o) c (crossing t) fresh n None refl (crossing s) l.0 l.1;
       }
 
   pub nowhere : distance d (crossing s) ≡ none → (v : List Dir) → ¬ (Legal G a b v)
@@ -95,20 +96,20 @@ told_detour G p w l =
     ap (λ n. n / 2) e ∙ mul-div_cancel_left (detour (target p) (source p) w) {n = 2} (omega arith)
 
 module _ (o : Mode) (G : Grid) (p : Pins) where
-  pub answers_none : ((v : List Dir) → ¬ (Legal G (source p) (target p) v)) → AnswersIn o G (source p) (target p) (silence NoWire)
+  pub answers_none : ((v : List Dir) → ¬ (Legal G (source p) (target p) v)) → AnswersIn o G (source p) (target p) (Err NoWire)
   unfolding Found Written
-  answers_none n = answers_of o G (source p) (target p) NoWire _ _ (record { found = n; turned = []; written = refl; xs_are = refl; ys_are = refl })
+  answers_none n = answers_of o G (source p) (target p) (Err NoWire) (record { found = n; turned = []; written = refl; xs_are = refl; ys_are = refl })
 
   module _ (w : List Dir) (a : AnsweredIn o G (source p) (target p) w) where
-    pub answers_many : most_corners < length (corners (source p) w) → AnswersIn o G (source p) (target p) (silence (TooManyRuns (length w)))
+    pub answers_many : most_corners < length (corners (source p) w) → AnswersIn o G (source p) (target p) (Err (TooManyRuns (length w)))
     unfolding Found Written
     answers_many h =
-        answers_of o G (source p) (target p) (TooManyRuns (length w)) _ _
+        answers_of o G (source p) (target p) (Err (TooManyRuns (length w)))
         (record { found = (w, (a, omega (arith, corner_runs (source p) w)), refl); turned = []; written = refl; xs_are = refl; ys_are = refl })
 
     pub answers_few : length (corners (source p) w) ≤ most_corners → AnswersIn o G (source p) (target p) (telling (length w) p (corners (source p) w))
     unfolding Found Written
-    answers_few h = answers_of o G (source p) (target p) (Wire _ _ _) _ _ (record {
+    answers_few h = answers_of o G (source p) (target p) (telling (length w) p (corners (source p) w)) (record {
       found = (w, (a, omega (arith, corner_runs (source p) w)), refl, told_detour G p w (in_legal o G (source p) (target p) w a), refl);
       turned = corners (source p) w;
       written = (w, a, refl);
@@ -118,7 +119,7 @@ module _ (o : Mode) (G : Grid) (p : Pins) where
 
   -- from what is told of the tables to the answer
   pub reached : (m : Map) (d : List ℕ) (l : Toll) (left : ℕ) (s t : At) → spot m (crossing s) ≡ source p → distance d (crossing s) < none
-      → Got (AnsweredIn o G (source p) (target p)) m d l left s t → (r : Routed) → Tells m d l left s t p r → AnswersIn o G (source p) (target p) r
+      → Got (AnsweredIn o G (source p) (target p)) m d l left s t → (r : Result Wire Untold) → Tells m d l left s t p r → AnswersIn o G (source p) (target p) r
   reached m d l left s t start near g r tell =
       elim (dec_le (length (corners (source p) g.word)) most_corners) [
         | yes few ↦
@@ -132,7 +133,7 @@ module _ (w h : ℕ) (bs : List Block) (m : Map) (k : Marks w h bs m)
     (tracked : All (BlockTracked (tracks (tracks_in m.xs m.nx) (tracks_in m.ys m.ny)) (grid_with w h bs)) bs)
     (d : List ℕ) (s t : At) (dist : Distances m t.i t.j (cell s.i s.j) d) (ch : Charted m d)
     (sx : s.i < m.nx) (sy : s.j < m.ny) (tx : t.i < m.nx) (ty : t.j < m.ny)
-    (p : Pins) (start : spot m (crossing s) ≡ source p) (end : spot m (crossing t) ≡ target p) (r : Routed) where
+    (p : Pins) (start : spot m (crossing s) ≡ source p) (end : spot m (crossing t) ≡ target p) (r : Result Wire Untold) where
   pub answers : (o : Mode) → ToldIn o m d s t p r → AnswersIn o (grid_with w h bs) (source p) (target p) r
   answers o tell =
       elim (dec_lt (distance d (crossing s)) none) [

@@ -30,8 +30,8 @@ module _ (ss : List Span) (far : ℕ) (further : List ℕ) (r : Tracks) (t : Are
       let next : get_or r.at j 0 < get_or r.at (suc j) 0 = rw (add-one j) at (track_rising t j (omega arith)) in
       ⊎_elim (λ e. rw e next) (λ (p : i < j). omega (arith, rises i j p (omega arith), next)) (eq-or-lt_of_le (le_of_suc-le-suc h))
 
-  pub to_edges : ranges.Rising r.at r.count
-  to_edges = record { rise = rises }
+  pub to_edges : ranges.Ascending r
+  to_edges = record { few = t.few; rise = record { rise = rises } }
 
   pub to_distances : 1 ≤ far → far ≤ 30000 → Widths r.at (r.count - 1)
   to_distances some h = record {

@@ -1,6 +1,6 @@
 -- The rectangles between keep-outs in the words of the struct.
 -- Assumes nothing.
-use Rattle.std.specs.Prelude.{ℕ, ◌+◌, ◌-◌, ◌≤◌, ◌<◌, ◌≡◌, Bool, true, false, ◌⊎◌, List, [], ◌∷◌, get_or}
+use Rattle.std.specs.Prelude.{ℕ, ◌+◌, ◌-◌, ◌≤◌, ◌<◌, ◌≡◌, Bool, true, false, ◌⊎◌, List, [], ◌∷◌, get_or, Option, Some, None}
 use Rattle.paper.specs.Limits.{most_blocks}
 use Rattle.paper.specs.Grid.{Block, widened, Any, All, Blocked}
 use Rattle.paper.specs.Laws.Says.{Says}
@@ -9,11 +9,7 @@ use Rattle.blocks.specs.declared.Blocks.{Blocks}
 use Rattle.blocks.specs.declared.Place.{Place}
 use Rattle.blocks.specs.declared.Look.{Look}
 use Rattle.blocks.specs.declared.Look.TheVariants.{KeepOuts, Wires}
-use Rattle.blocks.specs.declared.Found.{Found}
-use Rattle.blocks.specs.declared.Found.TheVariants.{At, Nothing}
-use Rattle.seams.specs.declared.Joined.{Joined}
-use Rattle.seams.specs.declared.Joined.TheVariants.{Over, Apart}
-use Rattle.blocks.specs.Flat.{place_area, first_at, Fits, Stops, Hit}
+use Rattle.blocks.specs.Flat.{place_area, place_at, first_at, Fits, Stops, Hit}
 
 -- ---- two rectangles
 
@@ -25,9 +21,9 @@ abbrev pub box_place : Block → Place
 box_place b = record { x0 = b.along_x.lo; y0 = b.along_y.lo; x1 = b.along_x.hi; y1 = b.along_y.hi }
 
 -- the one rectangle, or none
-abbrev pub joined_is : Joined → List Block
-joined_is (Over p) = place_box p ∷ []
-joined_is Apart = []
+abbrev pub joined_is : Option Place → List Block
+joined_is (Some p) = place_box p ∷ []
+joined_is None = []
 
 -- ---- the keep-outs that are held
 
@@ -35,9 +31,6 @@ joined_is Apart = []
 pub record Keeps (b : Blocks) : Type 0 where
   pub fits : Fits b
   pub kept : (i : ℕ) → i < b.items → get_or b.wires i false ≡ false → first_at b i < most_blocks
-
-abbrev pub place_at : Blocks → ℕ → Place
-place_at b k = record { x0 = get_or b.x0 k 0; y0 = get_or b.y0 k 0; x1 = get_or b.x1 k 0; y1 = get_or b.y1 k 0 }
 
 -- item i as a keep-out
 abbrev pub kept_at : Blocks → ℕ → Block
@@ -97,6 +90,6 @@ abbrev pub Sunk : Blocks → ℕ → ℕ → Type 0
 Sunk b x y = (1 ≤ x) × (1 ≤ y) × All (λ q. (i : ℕ) × Stops b KeepOuts q i) (cells x y)
 
 -- the first keep-out round a node that is all round covered
-unfoldable pub RoundIs : Blocks → ℕ → ℕ → Found → Type 0
-RoundIs b x y (At i) = Sunk b x y × HoldsOne b x y i × ((j : ℕ) → j < i → ¬ (HoldsOne b x y j))
-RoundIs b x y Nothing = ¬ (Sunk b x y)
+unfoldable pub RoundIs : Blocks → ℕ → ℕ → Option ℕ → Type 0
+RoundIs b x y (Some i) = Sunk b x y × HoldsOne b x y i × ((j : ℕ) → j < i → ¬ (HoldsOne b x y j))
+RoundIs b x y None = ¬ (Sunk b x y)

@@ -3,14 +3,14 @@
 
 ghost use Rattle.std.specs.Prelude.{◌≡◌, [], ◌∷◌, ◌+◌, ◌-◌, ◌*◌, ◌≤◌, ◌<◌, min, length, take};
 ghost use Rattle.text.specs.Text.{Part.number, Part.byte, Writes};
-ghost use Rattle.sheet.specs.Sheet.{corners_in, wire_in, blame_in, line_in, last_line, line_room, StepsIn};
+ghost use Rattle.sheet.specs.Sheet.{corners_in, wire_in, blame_in, line_of, last_line, line_room, StepsIn};
 ghost use Rattle.paper.specs.Layout.{fresh};
 ghost use Rattle.paper.specs.Padding.{board_of, WellFormed};
 
 use feed::feed_sound;
 use items::begin;
-use paper::{Board, LEAST_SLICE, Size, Verdict};
-use text::{put_byte, put_number, put_word};
+use paper::{Board, LEAST_SLICE, Reply, Size};
+use text::{put_byte, put_next, put_number, put_word};
 
 // The room that a line is lent: a number of 5 digits, a code of 3, a pin of 3 and an id of 5, a length and a detour of 10, 25 corners of
 // 11, a space before each but the first, and its end are 342 bytes. The rest is for `put_number`, which asks for 10 places.
@@ -23,46 +23,34 @@ fn put_corner(buffer: &mut [u8], at: usize, x: u16, y: u16) -> usize
     requires { at + 17 ≤ length buffer.old }
     ensures { Writes (corners_in (x ∷ y ∷ [])) buffer.old at buffer.new result × (result ≤ at + 12) }
 {
-    let spaced = put_byte(buffer, at, b' ');
-    let across = put_number(buffer, spaced, x as u32);
+    let across = put_next(buffer, at, u32::from(x));
     let parted = put_byte(buffer, across, b':');
-    put_number(buffer, parted, y as u32)
+    put_number(buffer, parted, u32::from(y))
 }
 
-// The first n corners that stand in the answer.
-fn put_corners(buffer: &mut [u8], at: usize, n: usize, answer: &[u16]) -> usize
-    requires { (n ≤ 25) × (n + n ≤ length answer.now) × (at + 12 * n + 5 ≤ length buffer.old) }
-    ensures { Writes (corners_in (take (n + n) answer.now)) buffer.old at buffer.new result × (result ≤ at + 12 * n) }
+// The corners, x and y of each.
+fn put_corners(buffer: &mut [u8], at: usize, corners: &[u16]) -> usize
+    requires { at + 6 * length corners.now + 5 ≤ length buffer.old }
+    ensures { Writes (corners_in corners.now) buffer.old at buffer.new result × (result ≤ at + 6 * length corners.now) }
 {
     let mut next = at;
-    let mut k: usize = 0;
-    while k < n {
-        next = put_corner(buffer, next, answer[k + k], answer[k + k + 1]);
-        k += 1;
+    for k in 0..corners.len() / 2 {
+        next = put_corner(buffer, next, corners[k + k], corners[k + k + 1]);
     }
     next
 }
 
 // Length, detour and corners; nothing where there are no corners.
-fn put_wire(
-    buffer: &mut [u8],
-    at: usize,
-    long: u32,
-    away: u32,
-    corners: usize,
-    answer: &[u16],
-) -> usize
-    requires { (corners ≤ 25) × (corners + corners ≤ length answer.now) × (at + 327 ≤ length buffer.old) }
-    ensures { Writes (wire_in long away (take (corners + corners) answer.now)) buffer.old at buffer.new result × (result ≤ at + 322) }
+fn put_wire(buffer: &mut [u8], at: usize, long: u32, away: u32, corners: &[u16]) -> usize
+    requires { (length corners.now ≤ 50) × (at + 327 ≤ length buffer.old) }
+    ensures { Writes (wire_in long away corners.now) buffer.old at buffer.new result × (result ≤ at + 322) }
 {
-    if corners == 0 {
+    if corners.is_empty() {
         return at;
     }
-    let first = put_byte(buffer, at, b' ');
-    let told = put_number(buffer, first, long);
-    let second = put_byte(buffer, told, b' ');
-    let next = put_number(buffer, second, away);
-    put_corners(buffer, next, corners, answer)
+    let told = put_next(buffer, at, long);
+    let next = put_next(buffer, told, away);
+    put_corners(buffer, next, corners)
 }
 
 // The pin and the item's id; nothing where no pin is named.
@@ -73,30 +61,20 @@ fn put_blame(buffer: &mut [u8], at: usize, pin: u8, id: u16) -> usize
     if pin == 0 {
         return at;
     }
-    let first = put_byte(buffer, at, b' ');
-    let named = put_number(buffer, first, pin as u32);
-    let second = put_byte(buffer, named, b' ');
-    put_number(buffer, second, id as u32)
+    let named = put_next(buffer, at, u32::from(pin));
+    put_next(buffer, named, u32::from(id))
 }
 
 // The line of the record with the number n, from the buffer's start: how many bytes it has.
-fn put_line(
-    buffer: &mut [u8],
-    n: u32,
-    said: Verdict,
-    long: u32,
-    away: u32,
-    corners: usize,
-    answer: &[u16],
-) -> usize
-    requires { (n ≤ 65535) × (corners ≤ 25) × (corners + corners ≤ length answer.now) × (line_room ≤ length buffer.old) }
-    ensures { Writes (line_in n said long away corners answer.now) buffer.old 0 buffer.new result }
+fn put_line(buffer: &mut [u8], n: u32, reply: &Reply, answer: &[u16]) -> usize
+    requires { (n ≤ 65535) × (reply.now.corners ≤ 25) × (reply.now.corners + reply.now.corners ≤ length answer.now) × (line_room ≤ length buffer.old) }
+    ensures { Writes (line_of n reply.now answer.now) buffer.old 0 buffer.new result }
 {
+    let corners = &answer[..reply.corners + reply.corners];
     let first = put_number(buffer, 0, n);
-    let spaced = put_byte(buffer, first, b' ');
-    let coded = put_number(buffer, spaced, said.code as u32);
-    let blamed = put_blame(buffer, coded, said.place, said.id);
-    let next = put_wire(buffer, blamed, long, away, corners, answer);
+    let coded = put_next(buffer, first, u32::from(reply.code));
+    let blamed = put_blame(buffer, coded, reply.pin, reply.id);
+    let next = put_wire(buffer, blamed, reply.length, reply.detour, corners);
     put_byte(buffer, next, b'\n')
 }
 
@@ -108,9 +86,10 @@ pub fn put_last(buffer: &mut [u8], left: bool) -> usize
     ensures { Writes (last_line left) buffer.old 0 buffer.new result }
 {
     if left {
-        return put_word(buffer, b'c', b'u', b't');
+        put_word(buffer, b"cut")
+    } else {
+        put_word(buffer, b"end")
     }
-    put_word(buffer, b'e', b'n', b'd')
 }
 
 // ---- one step
@@ -127,7 +106,7 @@ pub fn start() -> Board
 }
 
 // What a record leaves: the place after it, how many bytes its line has, and the board.
-#[derive(Clone, Copy)]
+#[derive(Clone, Copy, PartialEq, Eq, Debug)]
 pub struct Printed {
     pub next: usize,
     pub written: usize,
@@ -139,10 +118,7 @@ pub fn after_record(size: usize, at: usize) -> usize
     requires { at < size }
     ensures { result ≡ at + min 12 (size - at) }
 {
-    if size - at < 12 {
-        return size;
-    }
-    at + 12
+    at + (size - at).min(12)
 }
 
 // The record that begins at `at` is fed to the board, with 50 numbers lent, and its line written from the buffer's start.
@@ -153,23 +129,10 @@ pub fn step(file: &[u8], at: usize, n: u32, board: Board, line: &mut [u8]) -> Pr
     let next = after_record(file.len(), at);
     let mut answer = [0u16; LEAST_SLICE];
     let reply = feed_sound(board, &file[at..next], &mut answer);
-    let written = put_line(
-        line,
-        n,
-        Verdict {
-            code: reply.code,
-            place: reply.pin,
-            id: reply.id,
-        },
-        reply.length,
-        reply.detour,
-        reply.corners,
-        &answer,
-    );
-    let left = reply.board;
+    let written = put_line(line, n, &reply, &answer);
     Printed {
-        next: next,
-        written: written,
-        board: left,
+        next,
+        written,
+        board: reply.board,
     }
 }

@@ -1,7 +1,5 @@
 -- What follows from the definitions: nothing here has to be believed.
 
--- tests and lists
-pub mod Tests
 -- the struct, place by place
 pub mod Places
 pub mod Whole

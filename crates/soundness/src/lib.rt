@@ -7,14 +7,22 @@ mod shape;
 mod single;
 
 ghost use Rattle.std.specs.Prelude.{◌≡◌, ◌≤◌};
-ghost use Rattle.paper.specs.Layout.{RectFits, InRange, no_bounds};
+ghost use Rattle.paper.specs.Layout.{RectFits, InRange, no_bounds, Laid};
 ghost use Rattle.paper.specs.Padding.{WellFormed};
+ghost use Rattle.paper.specs.Laws.Back.{layout_of};
 ghost use Rattle.paper.specs.Laws.Says.{Says};
+ghost use Rattle.paper.specs.Laws.Standing.{Standing};
 
 use kept::undone_in_turn;
-use paper::{Board, Size};
+use paper::{Board, Rect, Size};
 use several::{items_fit, seamless};
 use shape::stands;
+
+const NO_BOUNDS: Size = Size {
+    w: 0,
+    h: 0,
+    clearance: 0,
+};
 
 const MOST_SIDE: u16 = 30000;
 
@@ -23,80 +31,49 @@ const MOST_CLEARANCE: u16 = 200;
 // ---- size
 
 // No bounds yet, and nothing there.
-fn unused(size: Size, count: usize, kept: usize) -> bool
-    ensures { Says result ((size ≡ no_bounds) × (count ≡ 0) × (kept ≡ 0)) }
+fn unused(board: Board) -> bool
+    ensures { Says result ((board.size ≡ no_bounds) × (board.count ≡ 0) × (board.kept ≡ 0)) }
 {
-    if size.w != 0 {
-        return false;
-    }
-    if size.h != 0 {
-        return false;
-    }
-    if size.clearance != 0 {
-        return false;
-    }
-    if count != 0 {
-        return false;
-    }
-    kept == 0
+    board.size == NO_BOUNDS && board.count == 0 && board.kept == 0
 }
 
 fn within(x: u16, most: u16) -> bool
     ensures { Says result ((1 ≤ x) × (x ≤ most)) }
 {
-    1 <= x && x <= most
+    (1..=most).contains(&x)
 }
 
 pub fn in_range(size: Size) -> bool
     ensures { Says result (InRange size) }
 {
-    if !within(size.w, MOST_SIDE) {
-        return false;
-    }
-    if !within(size.h, MOST_SIDE) {
-        return false;
-    }
-    within(size.clearance, MOST_CLEARANCE)
+    within(size.w, MOST_SIDE) && within(size.h, MOST_SIDE) && within(size.clearance, MOST_CLEARANCE)
 }
 
 // ---- one item
 
-pub fn rect_fits(size: Size, x0: u16, y0: u16, x1: u16, y1: u16) -> bool
-    ensures { Says result (RectFits size (record { x0 = x0; y0 = y0; x1 = x1; y1 = y1 })) }
+pub fn rect_fits(size: Size, rect: Rect) -> bool
+    ensures { Says result (RectFits size rect) }
 {
-    if x0 >= x1 {
-        return false;
-    }
-    if x1 > size.w {
-        return false;
-    }
-    if y0 >= y1 {
-        return false;
-    }
-    y1 <= size.h
+    rect.x0 < rect.x1 && rect.x1 <= size.w && rect.y0 < rect.y1 && rect.y1 <= size.h
 }
 
 // ---- the whole board
+
+// The layout on the board is one with bounds: its numbers, its items and its kept changes.
+#[tactic(auto, using(crate::specs::Laws::Stands::count_few), unfolding(paper::specs::Laws::Back::layout_of))]
+fn laid(board: Board) -> bool
+    requires { Standing board }
+    ensures { Says result (Laid (layout_of board)) }
+{
+    in_range(board.size)
+        && items_fit(board.size, &board.items[..board.count])
+        && seamless(board)
+        && undone_in_turn(board)
+}
 
 // The board is well formed.
 pub fn sound(board: Board) -> bool
     ensures { Says result (WellFormed board) }
 {
-    if !stands(board) {
-        return false;
-    }
-    if unused(board.size, board.count, board.kept) {
-        return true;
-    }
-    if !in_range(board.size) {
-        return false;
-    }
-    let items = board.items;
-    if !items_fit(board.size, items, board.count) {
-        return false;
-    }
-    if !seamless(board) {
-        return false;
-    }
-    undone_in_turn(board)
+    stands(board) && (unused(board) || laid(board))
 }

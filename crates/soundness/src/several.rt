@@ -1,5 +1,5 @@
 // Several items: each fits, by rising ids, apart from the others, few enough blocks, and no wire along a seam.
-ghost use Rattle.std.specs.Prelude.{◌≡◌, ◌+◌, ◌*◌, ◌<◌, ◌≤◌};
+ghost use Rattle.std.specs.Prelude.{map, length, ◌≡◌, ◌*◌, ◌≤◌};
 ghost use Rattle.paper.specs.Limits.{most_runs};
 ghost use Rattle.paper.specs.Grid.{All};
 ghost use Rattle.paper.specs.Layout.{block_count, Seamless, Apart, ItemsApart};
@@ -8,77 +8,51 @@ ghost use Rattle.paper.specs.Laws.Says.{Says};
 ghost use Rattle.paper.specs.Laws.Standing.{Standing};
 ghost use Rattle.blocks.specs.Meeting.{Placed};
 ghost use Rattle.items.specs.Items.{Whole};
-ghost use Rattle.soundness.specs.Shape.{things_of};
 ghost use Rattle.soundness.specs.Joining.{AllPlaced, AllWhole, Joins};
 
 use crate::single::fits;
-use blocks::of_board;
+use blocks::{block_number, meet, of_board};
 use paper::{Board, Item, MOST_BLOCKS, Size};
 use seams::crossed;
 
-// How many blocks the first n items are.
-fn total(items: [Item; MOST_BLOCKS], n: usize) -> usize
-    requires { AllPlaced n items }
-    ensures value { result ≡ block_count (things_of n items) }
-    ensures few { result ≤ most_runs * n }
+// How many blocks the items are.
+fn total(items: &[Item]) -> usize
+    requires { AllPlaced items.now }
+    ensures value { result ≡ block_count (map thing_of items.now) }
+    ensures few { result ≤ most_runs * length items.now }
 {
-    let mut sum: usize = 0;
-    let mut i: usize = 0;
-    while i < n {
-        let item = items[i];
-        sum += blocks::block_number(item.runs);
-        i += 1;
-    }
-    sum
+    items.iter().map(|item| block_number(item.runs)).sum()
 }
 
-// The item meets none of the first n.
-fn apart_from(items: [Item; MOST_BLOCKS], n: usize, item: Item, c: u16) -> bool
-    requires { AllPlaced n items × Placed item }
-    ensures { Says result (All (Apart c (thing_of item)) (things_of n items)) }
+// The item meets none of the others.
+fn apart_from(others: &[Item], item: Item, c: u16) -> bool
+    requires { AllPlaced others.now × Placed item }
+    ensures { Says result (All (Apart c (thing_of item)) (map thing_of others.now)) }
 {
-    let mut i: usize = 0;
-    while i < n {
-        let other = items[i];
-        if blocks::meet(item, other, c) {
-            return false;
-        }
-        i += 1;
-    }
-    true
+    others.iter().all(|other| !meet(item, *other, c))
 }
 
-// The item fits on a board of the size, beside the first n and with them.
-pub(crate) fn joins(size: Size, items: [Item; MOST_BLOCKS], n: usize, item: Item) -> bool
-    requires { AllPlaced n items × Whole item }
-    ensures { Says result (Joins size (things_of n items) (thing_of item)) }
+// The item fits on a board of the size, beside the others and with them.
+pub(crate) fn joins(size: Size, others: &[Item], item: Item) -> bool
+    requires { AllPlaced others.now × Whole item }
+    ensures { Says result (Joins size (map thing_of others.now) (thing_of item)) }
 {
-    if !fits(size, item) {
-        return false;
-    }
-    if total(items, n) + blocks::block_number(item.runs) > MOST_BLOCKS {
-        return false;
-    }
-    apart_from(items, n, item, size.clearance)
+    fits(size, item)
+        && total(others) + block_number(item.runs) <= MOST_BLOCKS
+        && apart_from(others, item, size.clearance)
 }
 
-// The first n items fit on a board of the size, two by two. Each is held against those before it.
-pub(crate) fn items_fit(size: Size, items: [Item; MOST_BLOCKS], n: usize) -> bool
-    requires { AllWhole n items }
-    ensures { Says result (ItemsApart size (things_of n items)) }
+// The items fit on a board of the size, two by two. Each is held against those before it.
+pub(crate) fn items_fit(size: Size, items: &[Item]) -> bool
+    requires { AllWhole items.now }
+    ensures { Says result (ItemsApart size (map thing_of items.now)) }
 {
     let mut last: u16 = 0;
-    let mut i: usize = 0;
-    while i < n {
-        let item = items[i];
-        if item.id <= last {
-            return false;
-        }
-        if !joins(size, items, i, item) {
+    for (i, item) in items.iter().enumerate() {
+        if item.id <= last || !joins(size, &items[..i], *item) {
             return false;
         }
         last = item.id;
-        i += 1;
     }
     true
 }

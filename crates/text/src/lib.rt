@@ -1,9 +1,11 @@
 // Text in a lent buffer: bytes, numbers in decimal, and words of three letters, each from a place on; the place after it is returned.
+// Buffer and place are two parameters and no struct, since `Writes` speaks of both before and after.
 #![tactic(auto)]
 
-ghost use Rattle.std.specs.Prelude.{◌≡◌, [], ◌∷◌, ◌+◌, ◌≤◌, ◌<◌, length};
-ghost use Rattle.text.specs.Text.{Part.number, Part.byte, Writes};
+ghost use Rattle.std.specs.Prelude.{◌≡◌, [], ◌∷◌, ◌++◌, ◌+◌, ◌≤◌, ◌<◌, length, map};
+ghost use Rattle.text.specs.Text.{Part.number, Part.byte, Puts, Writes};
 
+#[tactic(auto, using(crate::specs::Laws::Written::writes_byte))]
 pub fn put_byte(buffer: &mut [u8], at: usize, b: u8) -> usize
     requires { at < length buffer.old }
     ensures { Writes (byte b ∷ []) buffer.old at buffer.new result }
@@ -12,24 +14,23 @@ pub fn put_byte(buffer: &mut [u8], at: usize, b: u8) -> usize
     at + 1
 }
 
-fn digit(n: u32) -> u8
-    requires { n < 10 }
-    ensures { result ≡ 48 + n }
+fn put_text(buffer: &mut [u8], at: usize, text: &[u8]) -> usize
+    requires { at + length text.now ≤ length buffer.old }
+    ensures { Puts text.now buffer.old at buffer.new result }
 {
-    48 + n as u8
+    let next = at + text.len();
+    buffer[at..next].copy_from_slice(text);
+    next
 }
 
 // The decimal digits of n, from `at` on; the place after them.
-#[tactic(auto, using(crate::specs::Laws::Written::writes_digit, crate::specs::Laws::Written::writes_digits))]
+#[tactic(auto, using(crate::specs::Laws::Written::writes_number))]
 pub fn put_number(buffer: &mut [u8], at: usize, n: u32) -> usize
     requires { at + 10 ≤ length buffer.old }
     ensures { Writes (number n ∷ []) buffer.old at buffer.new result }
 {
-    if n < 10 {
-        return put_byte(buffer, at, digit(n));
-    }
-    let next = put_number(buffer, at, n / 10);
-    put_byte(buffer, next, digit(n % 10))
+    let mut digits = itoa::Buffer::new();
+    put_text(buffer, at, digits.format(n).as_bytes())
 }
 
 // A space and a number.
@@ -41,13 +42,12 @@ pub fn put_next(buffer: &mut [u8], at: usize, n: u32) -> usize
     put_number(buffer, spaced, n)
 }
 
-// Three letters and the line's end.
-pub fn put_word(buffer: &mut [u8], a: u8, b: u8, c: u8) -> usize
+// A word of three letters and the line's end.
+#[tactic(auto, using(crate::specs::Laws::Written::writes_line))]
+pub fn put_word(buffer: &mut [u8], word: &[u8; 3]) -> usize
     requires { 4 ≤ length buffer.old }
-    ensures { Writes (byte a ∷ byte b ∷ byte c ∷ byte 10 ∷ []) buffer.old 0 buffer.new result }
+    ensures { Writes (map byte word.now ++ byte 10 ∷ []) buffer.old 0 buffer.new result }
 {
-    let one = put_byte(buffer, 0, a);
-    let two = put_byte(buffer, one, b);
-    let three = put_byte(buffer, two, c);
-    put_byte(buffer, three, b'\n')
+    let end = put_text(buffer, 0, word);
+    put_byte(buffer, end, b'\n')
 }

@@ -1,17 +1,17 @@
 -- A way from crossing to crossing, step by step: where it ends, and which corners it has.
 -- Assumes nothing.
 use Prim.Native.Nat.{ℕ, zero, suc, pred, ◌+◌, ◌-◌, ◌≤◌, ◌<◌}
-use Rattle.std.proofs.Math.Decide.{dec_lt}
 use native.Mathlib.Omega.{arith}
-use Rattle.std.specs.Prelude.{◌≡◌, true, false, List, [], ◌∷◌, ◌++◌, replicate, eqb}
+use Rattle.std.specs.Prelude.{◌≡◌, true, false, Option, Some, None, List, [], ◌∷◌, ◌++◌, replicate, eqb}
 use Rattle.std.proofs.Math.Path.{refl, ap}
-use Rattle.std.proofs.Common.{sym, ◌∙◌, ne_eqb}
+use Rattle.std.proofs.Common.{◌∙◌, ne_eqb}
 use Rattle.std.proofs.Math.ListN.{get_or}
 use Rattle.paper.specs.Grid.{Node, Dir, E, N, W, S, rank, step, Edge, Free}
 use Rattle.paper.specs.Wire.{turns, corners}
+use Rattle.paper.specs.Laws.Least.{rank_inj}
 use Rattle.paper.specs.Laws.Traced.{turns_on, turns_at}
 use Rattle.distances.specs.Ways.{Map}
-use Rattle.trace.specs.Trail.{dir_of, chart, spot, far, Charted, corners_from}
+use Rattle.trace.specs.Trail.{chart, spot, far, Charted, corners_from}
 
 unfoldable pub hop : Dir → ℕ → Node → Node
 hop e zero p = p
@@ -106,51 +106,25 @@ module _ (e : Dir) (k : ℕ) (p r : Node) (rest : List Dir) (some : 1 ≤ k) (en
   run_at : (d : Dir) → eqb (rank d) (rank e) ≡ false → turns d p (replicate k e ++ rest) ≡ p ∷ turns e r rest
   run_at d h = let b = begun k some ends in ap (turns d p) b.1 ∙ turns_at d e p b.0 h ∙ ap (λ ns. p ∷ ns) b.2
 
--- ---- the same with directions told by their rank
+-- ---- the same from a direction, or from where the wire begins
 
-pub rank_dir : (k : ℕ) → k < 4 → rank (dir_of k) ≡ k
-rank_dir zero h = refl
-rank_dir (suc zero) h = refl
-rank_dir (suc (suc zero)) h = refl
-rank_dir (suc (suc (suc zero))) h = refl
-rank_dir (suc (suc (suc (suc k)))) h = absurd (omega arith)
-
-from_turns : (k : ℕ) (p : Node) (v : List Dir) → k < 4 → corners_from k p v ≡ turns (dir_of k) p v
-unfolding corners_from
-from_turns zero p v h = refl
-from_turns (suc zero) p v h = refl
-from_turns (suc (suc zero)) p v h = refl
-from_turns (suc (suc (suc zero))) p v h = refl
-from_turns (suc (suc (suc (suc k)))) p v h = absurd (omega arith)
-
-pub from_start : (p : Node) (v : List Dir) → corners_from 4 p v ≡ corners p v
+pub from_start : (p : Node) (v : List Dir) → corners_from None p v ≡ corners p v
 unfolding corners_from
 from_start p v = refl
 
-pub from_end : (k : ℕ) (p : Node) → corners_from k p [] ≡ p ∷ []
+pub from_end : (came : Option Dir) (p : Node) → corners_from came p [] ≡ p ∷ []
 unfolding corners_from turns corners
-from_end zero p = refl
-from_end (suc zero) p = refl
-from_end (suc (suc zero)) p = refl
-from_end (suc (suc (suc zero))) p = refl
-from_end (suc (suc (suc (suc k)))) p = refl
+from_end None p = refl
+from_end (Some e) p = refl
 
-module _ (came k n : ℕ) (p r : Node) (rest : List Dir) (dir : k < 4) (some : 1 ≤ n) (ends : hop (dir_of k) n p ≡ r) where
+module _ (e : Dir) (n : ℕ) (p r : Node) (rest : List Dir) (some : 1 ≤ n) (ends : hop e n p ≡ r) where
   -- straight on
-  pub corner_on : came ≡ k → corners_from came p (replicate n (dir_of k) ++ rest) ≡ corners_from k r rest
-  corner_on e =
-      ap (λ c. corners_from c p (replicate n (dir_of k) ++ rest)) e ∙ from_turns k p (replicate n (dir_of k) ++ rest) dir
-      ∙ run_on (dir_of k) n p r rest some ends (dir_of k) (rank_same (dir_of k)) ∙ sym (from_turns k r rest dir)
+  pub corner_on : corners_from (Some e) p (replicate n e ++ rest) ≡ corners_from (Some e) r rest
+  unfolding corners_from
+  corner_on = run_on e n p r rest some ends e (rank_same e)
 
   -- at a turn, or where the wire begins
-  pub corner_at_lem : came ≤ 4 → ¬ (came ≡ k) → corners_from came p (replicate n (dir_of k) ++ rest) ≡ p ∷ corners_from k r rest
-  corner_at_lem h ne =
-      elim (dec_lt came 4) [
-        | yes q ↦
-            from_turns came p (replicate n (dir_of k) ++ rest) q
-            ∙ run_at (dir_of k) n p r rest some ends (dir_of came) (ne_eqb _ _ (λ z. ne (sym (rank_dir came q) ∙ z ∙ rank_dir k dir)))
-            ∙ ap (λ ns. p ∷ ns) (sym (from_turns k r rest dir))
-        | no q ↦
-            ap (λ c. corners_from c p (replicate n (dir_of k) ++ rest)) (let z : came ≡ 4 = omega arith in z) ∙ from_start p (replicate n (dir_of k) ++ rest)
-            ∙ run_first (dir_of k) n p r rest some ends ∙ ap (λ ns. p ∷ ns) (sym (from_turns k r rest dir))
-      ]
+  pub corner_at_lem : (came : Option Dir) → ¬ (came ≡ Some e) → corners_from came p (replicate n e ++ rest) ≡ p ∷ corners_from (Some e) r rest
+  unfolding corners_from
+  corner_at_lem None ne = run_first e n p r rest some ends
+  corner_at_lem (Some f) ne = run_at e n p r rest some ends f (ne_eqb _ _ (λ z. ne (ap Some (rank_inj f e z))))

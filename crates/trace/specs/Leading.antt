@@ -1,19 +1,19 @@
 -- Which directions lead nearer: one law for an axis, and how the four directions are its cases.
 -- Assumes nothing.
-use Prim.Native.Nat.{ℕ, zero, suc, pred, ◌+◌, ◌-◌, ◌*◌, ◌≤◌, ◌<◌}
+use Prim.Native.Nat.{ℕ, suc, pred, ◌+◌, ◌-◌, ◌*◌, ◌≤◌, ◌<◌}
 use native.Mathlib.Omega.{arith}
 use Rattle.std.proofs.Math.Path.{◌≡◌, ap, subst}
-use Rattle.std.specs.Prelude.{refl, Bool, ◌↔◌, List}
+use Rattle.std.specs.Prelude.{Bool, nat_eq, ◌&&◌, ◌↔◌, Option, Some, None, List}
 use Rattle.std.proofs.Common.{sym, ◌∙◌}
 use Rattle.std.proofs.Math.Bool.{true, false}
 use Rattle.std.proofs.Math.ListN.{get_or}
 use Rattle.paper.specs.Grid.{Node, Dir, E, N, W, S, step, Axis, level, upright, Edge, Free}
-use Rattle.paper.specs.Laws.Steps.{axis_of}
-use Rattle.paper.specs.Laws.Says.{Says, says_as, says_never}
+use Rattle.std.proofs.Math.Dec.{ltb}
+use Rattle.paper.specs.Laws.Says.{Says, says_as, says_and, says_eq, says_le}
 use Rattle.distances.specs.Sweep.{width_of}
 use Rattle.distances.specs.Ways.{Map}
-use Rattle.trace.specs.declared.At.{At}
-use Rattle.trace.specs.Trail.{crossing, dir_of, chart, far, Leads, Nearer, Along, Toll, turning, bend_from, dues, turns_in, Fits, FirstWay, OnAxis, Charted, Room}
+use Rattle.tracks.specs.declared.At.{At}
+use Rattle.trace.specs.Trail.{crossing, chart, far, Leads, Nearer, Along, bend_from, OnAxis, Charted, Room}
 
 -- ---- one axis
 
@@ -24,9 +24,9 @@ module _ (d shut at : List ℕ) (n u here step : ℕ) where
   along_forth true b w e h q s = says_as (λ p. (h, rw q at p)) (λ p. rw q p.1) s
   along_forth false b w e h q s = absurd (let z : ◌≡◌ {A = ℕ} 0 1 = cc in omega arith)
 
-  pub along_end : (forth : Bool) → forth ≡ true → ¬ (u + 1 < n) → Says false (Along d shut at n u here step forth)
+  pub along_end : (forth : Bool) → forth ≡ true → ¬ (u + 1 < n) → Says (ltb (u + 1) n) (Along d shut at n u here step forth)
   unfolding Along
-  along_end true e h = says_never (λ p. h p.0)
+  along_end true e h = says_as (λ p. absurd (h p)) (λ p. p.0) (says_le (suc (u + 1)) n)
   along_end false e h = absurd (let z : ◌≡◌ {A = ℕ} 0 1 = cc in omega arith)
 
   pub along_back : (forth b : Bool) (w : ℕ) → forth ≡ false → 0 < u → w ≡ width_of at (u - 1) → Says b (Nearer d (get_or shut (here - step) 0) (here - step) here w)
@@ -37,9 +37,9 @@ module _ (d shut at : List ℕ) (n u here step : ℕ) where
       says_as (λ p. (h, subst (Nearer d (get_or shut (here - step) 0) (here - step) here) (q ∙ z) p)) (λ p. subst (Nearer d (get_or shut (here - step) 0) (here - step) here) (sym (q ∙ z)) p.1) s
   along_back true b w e h q s = absurd (let z : ◌≡◌ {A = ℕ} 0 1 = cc in omega arith)
 
-  pub along_start : (forth : Bool) → forth ≡ false → ¬ (0 < u) → Says false (Along d shut at n u here step forth)
+  pub along_start : (forth : Bool) → forth ≡ false → ¬ (0 < u) → Says (ltb 0 u) (Along d shut at n u here step forth)
   unfolding Along
-  along_start false e h = says_never (λ p. h p.0)
+  along_start false e h = says_as (λ p. absurd (h p)) (λ p. p.0) (says_le 1 u)
   along_start true e h = absurd (let z : ◌≡◌ {A = ℕ} 0 1 = cc in omega arith)
 
 -- ---- the places of a crossing
@@ -137,83 +137,29 @@ module _ (m : Map) (d : List ℕ) where
       go W f = unfold Free Edge step in (let z : pred q.x < m.nx = omega arith in z, r)
       go S f = unfold Free Edge step in (p, let z : pred q.y < m.ny = omega arith in z)
 
-  pub lead_room : Charted m d → (q : At) (k : ℕ) → Leads m d (crossing q) (dir_of k) → Room q k
-  lead_room c q k l = go k l.clear
+  pub lead_room : Charted m d → (q : At) (e : Dir) → Leads m d (crossing q) e → Room q e
+  lead_room c q e l = go e l.clear
     where
-      go : (k : ℕ) → Free (chart m) (crossing q) (dir_of k) → Room q k
-      go zero f = unfold Free Edge Room in omega (arith, f.0, c.nx_few)
-      go (suc zero) f = unfold Free Edge Room in omega (arith, f.1, c.ny_few)
-      go (suc (suc zero)) f = unfold Free Room in f.0
-      go (suc (suc (suc n))) f = unfold Free Room in f.0
-
--- ---- the first of them
-
-pub first_start : (m : Map) (d : List ℕ) (o : Toll) (came left : ℕ) (q : Node) → (j : ℕ) → j < 0 → ¬ (Fits m d o came left q (dir_of j))
-first_start m d o came left q j h = absurd (omega arith)
-
--- a number that is none of 0, 1 and 2 stands for S
-pub dir_rest : (k : ℕ) → ¬ (k ≡ 0) → ¬ (k ≡ 1) → ¬ (k ≡ 2) → dir_of k ≡ S
-dir_rest zero a b c = absurd (a refl)
-dir_rest (suc zero) a b c = absurd (b refl)
-dir_rest (suc (suc zero)) a b c = absurd (c refl)
-dir_rest (suc (suc (suc k))) a b c = refl
-
-pub room_rest : (q : At) (k : ℕ) → ¬ (k ≡ 0) → ¬ (k ≡ 1) → ¬ (k ≡ 2) → Room q k → 0 < q.j
-unfolding Room
-room_rest q zero a b c r = absurd (a refl)
-room_rest q (suc zero) a b c r = absurd (b refl)
-room_rest q (suc (suc zero)) a b c r = absurd (c refl)
-room_rest q (suc (suc (suc k))) a b c r = r
-
-module _ (m : Map) (d : List ℕ) (o : Toll) (came left : ℕ) (q : Node) (k : ℕ) where
-  pub first_found : k < 4 → Fits m d o came left q (dir_of k) → ((j : ℕ) → j < k → ¬ (Fits m d o came left q (dir_of j))) → FirstWay m d o came left q k
-  unfolding FirstWay
-  first_found h l n = (omega arith, λ z. l, n)
-
-  pub first_none : k ≡ 4 → ((j : ℕ) → j < k → ¬ (Fits m d o came left q (dir_of j))) → FirstWay m d o came left q k
-  unfolding FirstWay
-  first_none e n = (omega arith, λ z. absurd (omega arith), n)
+      go : (e : Dir) → Free (chart m) (crossing q) e → Room q e
+      go E f = unfold Free Edge Room in omega (arith, f.0, c.nx_few)
+      go N f = unfold Free Edge Room in omega (arith, f.1, c.ny_few)
+      go W f = unfold Free Room in f.0
+      go S f = unfold Free Room in f.0
 
 -- ---- what the turn costs
 
-module _ (c : List ℕ) (a : Axis) (q : Node) where
-  pub dues_none : (p : ℕ) → p ≡ 0 → dues p c a q ≡ 0
-  dues_none zero e = refl
-  dues_none (suc p) e = absurd (omega arith)
-
-  pub dues_some : (p : ℕ) → ¬ (p ≡ 0) → dues p c a q ≡ turns_in c a q
-  dues_some zero n = absurd (n refl)
-  dues_some (suc p) n = refl
-
-pub dir_axis : (k : ℕ) (b : Axis) (p : ℕ) → k < 4 → bend_from p k b ≡ turning p (axis_of (dir_of k)) b
-dir_axis zero b p h = refl
-dir_axis (suc zero) b p h = refl
-dir_axis (suc (suc zero)) b p h = refl
-dir_axis (suc (suc (suc zero))) b p h = refl
-dir_axis (suc (suc (suc (suc k)))) b p h = absurd (omega arith)
-
-pub bend_start : (k : ℕ) (b : Axis) (p : ℕ) → 4 ≤ k → bend_from p k b ≡ 0
-bend_start zero b p h = absurd (omega arith)
-bend_start (suc zero) b p h = absurd (omega arith)
-bend_start (suc (suc zero)) b p h = absurd (omega arith)
-bend_start (suc (suc (suc zero))) b p h = absurd (omega arith)
-bend_start (suc (suc (suc (suc k)))) b p h = refl
-
-pub bend_most : (k : ℕ) (b : Axis) (p : ℕ) → bend_from p k b ≤ p
-bend_most zero level p = omega arith
-bend_most zero upright p = omega arith
-bend_most (suc zero) level p = omega arith
-bend_most (suc zero) upright p = omega arith
-bend_most (suc (suc zero)) level p = omega arith
-bend_most (suc (suc zero)) upright p = omega arith
-bend_most (suc (suc (suc zero))) level p = omega arith
-bend_most (suc (suc (suc zero))) upright p = omega arith
-bend_most (suc (suc (suc (suc k)))) b p = omega arith
+pub bend_most : (came : Option Dir) (b : Axis) (p : ℕ) → bend_from p came b ≤ p
+bend_most None b p = omega arith
+bend_most (Some E) level p = omega arith
+bend_most (Some E) upright p = omega arith
+bend_most (Some N) level p = omega arith
+bend_most (Some N) upright p = omega arith
+bend_most (Some W) level p = omega arith
+bend_most (Some W) upright p = omega arith
+bend_most (Some S) level p = omega arith
+bend_most (Some S) upright p = omega arith
 
 -- ---- crossings that are one
 
-pub same_both : (q g : At) (b : Bool) → q.i ≡ g.i → Says b (q.j ≡ g.j) → Says b (crossing q ≡ crossing g)
-same_both q g b e s = says_as (λ f. (λ k. record { x = e k; y = f k })) (λ f. ap (λ n. n.y) f) s
-
-pub same_never : (q g : At) → ¬ (q.i ≡ g.i) → Says false (crossing q ≡ crossing g)
-same_never q g n = says_never (λ f. n (ap (λ p. p.x) f))
+pub one_crossing : (q g : At) {b : Bool} → b ≡ (nat_eq q.i g.i && nat_eq q.j g.j) → Says b (crossing q ≡ crossing g)
+one_crossing q g e = rw e (says_as (λ f. λ k. record { x = f.0 k; y = f.1 k }) (λ f. (ap (λ n. n.x) f, ap (λ n. n.y) f)) (says_and (says_eq q.i g.i) (says_eq q.j g.j)))

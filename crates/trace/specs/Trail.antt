@@ -1,23 +1,30 @@
 -- The trail through a table of distances, from crossing to crossing, and what is written of it.
 -- Assumes nothing.
-use Rattle.std.specs.Prelude.{ℕ, zero, suc, pred, ◌+◌, ◌-◌, ◌≤◌, ◌<◌, ◌≡◌, Bool, true, false, List, [], ◌∷◌, ◌++◌, map, length, get_or, replicate}
+use Rattle.std.specs.Borrow.{Bor}
+use Rattle.std.specs.Prelude.{ℕ, zero, suc, pred, ◌+◌, ◌-◌, ◌≤◌, ◌<◌, ◌≡◌, Bool, true, false, Option, Some, None, List, [], ◌∷◌, ◌++◌, map, length, get_or, replicate}
 use Rattle.paper.specs.Grid.{Node, Dir, E, N, W, S, rank, step, Axis, level, upright, Grid, Free}
 use Rattle.paper.specs.Wire.{turns, corners}
 use Rattle.paper.specs.Laws.Steps.{axis_of}
 use Rattle.distances.specs.Lower.{none}
 use Rattle.distances.specs.Sweep.{Widths}
 use Rattle.distances.specs.Ways.{cell, Map}
-use Rattle.trace.specs.declared.At.{At}
+use Rattle.tracks.specs.declared.At.{At}
+use Rattle.trace.specs.declared.Direction.{Direction}
+use Rattle.trace.specs.declared.Direction.TheVariants.{East, North, West, South}
 
 abbrev pub crossing : At → Node
 crossing q = record { x = q.i; y = q.j }
 
--- the directions by their rank
-abbrev pub dir_of : ℕ → Dir
-dir_of zero = E
-dir_of (suc zero) = N
-dir_of (suc (suc zero)) = W
-dir_of (suc (suc (suc n))) = S
+abbrev pub dir_of : Direction → Dir
+dir_of East = E
+dir_of North = N
+dir_of West = W
+dir_of South = S
+
+-- the direction by which a wire has come; none where it begins
+abbrev pub way_of : Option Direction → Option Dir
+way_of None = None
+way_of (Some e) = Some (dir_of e)
 
 abbrev pub distance : List ℕ → Node → ℕ
 distance d q = get_or d (cell q.x q.y) 0
@@ -56,6 +63,15 @@ pub record Toll : Type 0 where
 abbrev pub toll : ℕ → List ℕ → Toll
 toll p c = record { price = p; table = c }
 
+-- turns cost nothing, and no table is read
+abbrev pub free : Toll
+free = toll 0 (0 ∷ [])
+
+-- a turn costs one where there is a table
+abbrev pub toll_of : Option (Bor (List ℕ)) → Toll
+toll_of None = free
+toll_of (Some c) = toll 1 c.now
+
 -- where a crossing's numbers stand
 abbrev pub slot : Axis → Node → ℕ
 slot level q = cell q.x q.y
@@ -86,24 +102,21 @@ abbrev pub axis_by : Bool → Axis
 axis_by false = level
 axis_by true = upright
 
--- the same where the wire has come by the direction of rank k; nothing where it begins, 4
-abbrev pub bend_from : ℕ → ℕ → Axis → ℕ
-bend_from p zero b = turning p level b
-bend_from p (suc zero) b = turning p upright b
-bend_from p (suc (suc zero)) b = turning p level b
-bend_from p (suc (suc (suc zero))) b = turning p upright b
-bend_from p (suc (suc (suc (suc n)))) b = 0
+-- the same where the wire has come by a direction; nothing where it begins
+abbrev pub bend_from : ℕ → Option Dir → Axis → ℕ
+bend_from p None b = 0
+bend_from p (Some e) b = turning p (axis_of e) b
 
 -- the way leads nearer, and costs what is left for turns
-pub record Fits (m : Map) (d : List ℕ) (o : Toll) (came left : ℕ) (q : Node) (e : Dir) : Type 0 where
+pub record Fits (m : Map) (d : List ℕ) (o : Toll) (came : Option Dir) (left : ℕ) (q : Node) (e : Dir) : Type 0 where
   pub leads : Leads m d q e
   pub turns : dues o.price o.table (axis_of e) (step e q) + bend_from o.price came (axis_of e) ≡ left
 
 -- the trail to g: always by the first direction that fits
-pub data Trail (m : Map) (d : List ℕ) (o : Toll) (g : Node) : ℕ → ℕ → Node → List Dir → Type 0 where
-  stop : {came : ℕ} → Trail m d o g came 0 g []
-  go : {came left : ℕ} {q : Node} {e : Dir} {rest : List Dir} → Fits m d o came left q e → ((f : Dir) → rank f < rank e → ¬ (Fits m d o came left q f))
-      → Trail m d o g (rank e) (dues o.price o.table (axis_of e) (step e q)) (step e q) rest → Trail m d o g came left q (replicate (far m e q) e ++ rest)
+pub data Trail (m : Map) (d : List ℕ) (o : Toll) (g : Node) : Option Dir → ℕ → Node → List Dir → Type 0 where
+  stop : {came : Option Dir} → Trail m d o g came 0 g []
+  go : {came : Option Dir} {left : ℕ} {q : Node} {e : Dir} {rest : List Dir} → Fits m d o came left q e → ((f : Dir) → rank f < rank e → ¬ (Fits m d o came left q f))
+      → Trail m d o g (Some e) (dues o.price o.table (axis_of e) (step e q)) (step e q) rest → Trail m d o g came left q (replicate (far m e q) e ++ rest)
 
 -- ---- a step of it
 
@@ -116,9 +129,10 @@ unfoldable pub Along : List ℕ → List ℕ → List ℕ → ℕ → ℕ → �
 Along d shut at n u here step true = (u + 1 < n) × Nearer d (get_or shut here 0) (here + step) here (get_or at (u + 1) 0 - get_or at u 0)
 Along d shut at n u here step false = (0 < u) × Nearer d (get_or shut (here - step) 0) (here - step) here (get_or at u 0 - get_or at (u - 1) 0)
 
--- the first direction that fits; 4 where none does
-unfoldable pub FirstWay : Map → List ℕ → Toll → ℕ → ℕ → Node → ℕ → Type 0
-FirstWay m d o came left q k = (k ≤ 4) × (k < 4 → Fits m d o came left q (dir_of k)) × ((j : ℕ) → j < k → ¬ (Fits m d o came left q (dir_of j)))
+-- the first direction that fits, or none does
+unfoldable pub FirstWay : Map → List ℕ → Toll → Option Dir → ℕ → Node → Option Dir → Type 0
+FirstWay m d o came left q None = (f : Dir) → ¬ (Fits m d o came left q f)
+FirstWay m d o came left q (Some e) = Fits m d o came left q e × ((f : Dir) → rank f < rank e → ¬ (Fits m d o came left q f))
 
 -- ---- what is asked of the map and the table
 
@@ -134,11 +148,11 @@ pub record OnAxis (d at : List ℕ) (n u here step : ℕ) : Type 0 where
   pub top : (c : ℕ) → get_or d c 0 ≤ none
 
 -- there is a neighbour in the direction
-unfoldable pub Room : At → ℕ → Type 0
-Room q zero = q.i < 96
-Room q (suc zero) = q.j < 96
-Room q (suc (suc zero)) = 0 < q.i
-Room q (suc (suc (suc n))) = 0 < q.j
+unfoldable pub Room : At → Dir → Type 0
+Room q E = q.i < 96
+Room q N = q.j < 96
+Room q W = 0 < q.i
+Room q S = 0 < q.j
 
 pub record Charted (m : Map) (d : List ℕ) : Type 0 where
   pub nx_few : m.nx ≤ 96
@@ -149,13 +163,10 @@ pub record Charted (m : Map) (d : List ℕ) : Type 0 where
 
 -- ---- what is written
 
--- the corners of a walk from p that has come there by the direction of rank k; by none where k is 4
-unfoldable pub corners_from : ℕ → Node → List Dir → List Node
-corners_from zero p v = turns E p v
-corners_from (suc zero) p v = turns N p v
-corners_from (suc (suc zero)) p v = turns W p v
-corners_from (suc (suc (suc zero))) p v = turns S p v
-corners_from (suc (suc (suc (suc n)))) p v = corners p v
+-- the corners of a walk from p that has come there by a direction, or begins there
+unfoldable pub corners_from : Option Dir → Node → List Dir → List Node
+corners_from None p v = corners p v
+corners_from (Some e) p v = turns e p v
 
 -- the numbers written over those from the place `at` on, as far as there is room
 unfoldable pub over : ℕ → List ℕ → List ℕ → List ℕ
@@ -165,19 +176,14 @@ over zero (n ∷ ns) (x ∷ s) = n ∷ over zero ns s
 over (suc at) ns [] = []
 over (suc at) ns (x ∷ s) = x ∷ over at ns s
 
-pub record Tracing (m : Map) (d : List ℕ) (price : ℕ) (q g : At) (came remaining : ℕ) (xs ys : List ℕ) (at : ℕ) : Type 0 where
-  pub charted : Charted m d
+pub record Tracing (m : Map) (d : List ℕ) (q g : At) (remaining at : ℕ) : Type 0 where
   pub q_x : q.i < m.nx
   pub q_y : q.j < m.ny
   pub home : distance d (crossing g) ≡ 0
   pub left : remaining ≡ distance d (crossing q)
-  pub came_few : came ≤ 4
-  pub price_few : price ≤ 1
   pub at_few : at + remaining ≤ 2000000000
-  pub xs_long : length xs ≡ 25
-  pub ys_long : length ys ≡ 25
 
-pub record Traces (m : Map) (d : List ℕ) (o : Toll) (g q : Node) (came left at : ℕ) (xs xs' ys ys' : List ℕ) (r : ℕ) : Type 0 where
+pub record Traces (m : Map) (d : List ℕ) (o : Toll) (g q : Node) (came : Option Dir) (left at : ℕ) (xs xs' ys ys' : List ℕ) (r : ℕ) : Type 0 where
   pub counted : (v : List Dir) → Trail m d o g came left q v → r ≡ at + length (corners_from came (spot m q) v)
   pub xs_are : (v : List Dir) → Trail m d o g came left q v → xs' ≡ over at (map (λ p. p.x) (corners_from came (spot m q) v)) xs
   pub ys_are : (v : List Dir) → Trail m d o g came left q v → ys' ≡ over at (map (λ p. p.y) (corners_from came (spot m q) v)) ys

@@ -8,5 +8,4 @@ pub mod Parts
 pub mod Places
 pub mod Added
 pub mod Gathered
-pub mod Inserted
 pub mod Put

@@ -25,24 +25,20 @@ mod bytes;
 mod crowd;
 mod lent;
 mod numbers;
-mod same;
 mod say;
 mod words;
 
-ghost use Rattle.std.specs.Prelude.{◌≤◌, ◌<◌, length};
-
 use beside::{Kept, feed_beside};
-use bytes::record_of;
 use crowd::{crowd_word, say_index};
 use feed::feed;
 use index::{Index, no_index};
-use input::{large_buffer, read_all};
+use input::{read_all, zeros};
 use items::begin;
 use lent::marks;
-use numbers::{Numbers, number, numbers_of};
+use numbers::numbers_of;
 use paper::{Board, LEAST_SLICE, Size};
-use same::same_board;
-use say::{say, say_number, say_reply};
+use say::say_reply;
+use std::io;
 use words::{look_word, record_word, write_word};
 
 const MOST_LENT: usize = 60;
@@ -50,12 +46,6 @@ const MOST_LENT: usize = 60;
 const MOST_BYTES: usize = 24;
 
 const MOST_NUMBERS: usize = 64;
-
-fn least(n: usize, most: usize) -> usize
-    ensures { result ≤ most }
-{
-    if n > most { most } else { n }
-}
 
 // ---- a trial
 
@@ -91,112 +81,70 @@ fn new_trial() -> Trial {
     }
 }
 
-fn next(fed: u32) -> u32 {
-    if fed < 65535 { fed + 1 } else { fed }
-}
-
-// What a record leaves is told.
-fn tell(out: &impl Print, trial: Trial, kept: Kept, slice: [u16; MOST_LENT]) -> Trial {
-    let reply = kept.reply;
-    let index = kept.index;
-    let before = trial.board;
-    let after = reply.board;
-    let was = trial.index;
-    let mut left = trial;
-    left.fed = next(trial.fed);
-    left.board = after;
-    left.index = index;
-    left.slice = slice;
-    say_number(out, left.fed as u64);
-    say_reply(out, reply, slice, same_board(before, after));
-    if trial.beside {
-        say_index(out, was, index);
-    }
-    say(out, b"\n");
-    left
-}
-
 // The bytes are fed to the board, and to the index if one is kept.
-fn fed(trial: Trial, bytes: &[u8], answer: &mut [u16]) -> Kept {
-    let board = trial.board;
-    let index = trial.index;
+fn fed(trial: &Trial, bytes: &[u8], answer: &mut [u16]) -> Kept {
     if trial.beside {
-        return feed_beside(board, index, bytes, answer);
+        return feed_beside(trial.board, trial.index, bytes, answer);
     }
-    let reply = feed(board, bytes, answer);
     Kept {
-        reply: reply,
-        index: index,
+        reply: feed(trial.board, bytes, answer),
+        index: trial.index,
     }
 }
 
-// The first bytes are fed.
-fn feed_bytes(out: &impl Print, trial: Trial, bytes: [u8; MOST_BYTES], count: usize) -> Trial {
-    let n = least(count, MOST_BYTES);
-    let lent = least(trial.lent, MOST_LENT);
+// The bytes are fed, and what they leave is told.
+fn feed_bytes(out: &impl Print, trial: &mut Trial, bytes: &[u8]) -> io::Result<()> {
+    let lent = trial.lent.min(MOST_LENT);
     let mut slice = marks();
-    let kept = fed(trial, &bytes[..n], &mut slice[..lent]);
-    tell(out, trial, kept, slice)
-}
-
-fn feed_record(out: &impl Print, trial: Trial, kind: u16, id: u16, n: Numbers, from: usize) -> Trial
-    requires { from ≤ 2 }
-{
-    feed_bytes(out, trial, record_of(kind, id, n, from), 12)
+    let kept = fed(trial, bytes, &mut slice[..lent]);
+    trial.fed = trial.fed.saturating_add(1);
+    print!(out; "{}", trial.fed)?;
+    say_reply(out, &kept.reply, &slice, kept.reply.board == trial.board)?;
+    if trial.beside {
+        say_index(out, trial.index, kept.index)?;
+    }
+    trial.board = kept.reply.board;
+    trial.index = kept.index;
+    trial.slice = slice;
+    println!(out;)
 }
 
 // ---- the script
 
-fn title(out: &impl Print, line: &[u8]) -> Trial {
-    say(out, line);
-    say(out, b"\n");
-    new_trial()
+fn title(out: &impl Print, trial: &mut Trial, line: &[u8]) -> io::Result<()> {
+    *trial = new_trial();
+    out.write_all(line)?;
+    println!(out;)
 }
 
-fn follow(out: &impl Print, trial: Trial, line: &[u8]) -> Trial {
-    if line.len() == 0 {
-        return trial;
-    }
+fn follow(out: &impl Print, trial: &mut Trial, line: &[u8]) -> io::Result<()> {
+    let Some(&word) = line.first() else {
+        return Ok(());
+    };
     let n = numbers_of(line);
-    let word = line[0];
     match word {
-        b'=' => title(out, line),
-        b'S' | b'I' | b'K' | b'P' | b'C' => write_word(trial, word, n),
-        b's' | b'v' | b'd' | b'm' | b'e' => look_word(out, trial, word, n),
-        b'i' | b'c' | b'B' | b'T' => crowd_word(out, trial, word, n),
-        _ => record_word(out, trial, word, n),
-    }
-}
-
-// Where the line ends that begins at a place.
-fn line_end(script: &[u8], from: usize) -> usize
-    requires { from ≤ length script.now }
-    ensures { (from ≤ result) × (result ≤ length script.now) }
-{
-    let mut k = from;
-    while k < script.len() {
-        if script[k] == b'\n' {
-            return k;
+        b'=' => title(out, trial, line),
+        b'S' | b'I' | b'K' | b'P' | b'C' => {
+            write_word(&mut trial.board, word, &n);
+            Ok(())
         }
-        k += 1;
+        b's' | b'v' | b'd' | b'm' | b'e' => look_word(out, trial, word, &n),
+        b'i' | b'c' | b'B' | b'T' => crowd_word(out, trial, word, &n),
+        _ => record_word(out, trial, word, &n),
     }
-    k
 }
 
-fn run(out: &impl Print, script: &[u8]) {
+fn run(out: &impl Print, script: &[u8]) -> io::Result<()> {
     let mut trial = new_trial();
-    let mut from: usize = 0;
-    while from < script.len() {
-        let end = line_end(script, from);
-        trial = follow(out, trial, &script[from..end]);
-        from = end + 1;
+    for line in script.split(|byte| *byte == b'\n') {
+        follow(out, &mut trial, line)?;
     }
+    println!(out; "end")
 }
 
 fn main(rt: HostRuntime) {
-    let mut room = large_buffer();
+    let mut room = zeros::<65536>();
     let mut source = rt.stdin();
-    let input = read_all(&mut source, &mut room);
-    run(&rt, &room[..input.size]);
-    say(&rt, b"end\n");
+    let size = read_all(&mut source, &mut room).unwrap_or_else(|failed| failed.size);
+    let _ = run(&rt, &room[..size]);
 }

@@ -1,67 +1,60 @@
 // The numbers of a line of the script.
-ghost use Rattle.std.specs.Prelude.{◌<◌};
+ghost use Rattle.std.specs.Prelude.{◌≤◌};
 
 use crate::MOST_NUMBERS;
 
-// `inside`: the byte before was a digit.
 #[derive(Clone, Copy)]
 pub(crate) struct Numbers {
     pub count: usize,
-    pub inside: bool,
     pub all: [u16; MOST_NUMBERS],
 }
 
-// The number at a place, 0 past the last.
-pub(crate) fn number(n: Numbers, at: usize) -> u16 {
-    if at < MOST_NUMBERS { n.all[at] } else { 0 }
-}
-
-fn longer(v: u16, digit: u8) -> u16 {
-    ((v as u32 * 10 + digit as u32) % 65536) as u16
-}
-
-fn with_digit(n: Numbers, digit: u8) -> Numbers {
-    let mut next = n;
-    let mut at = n.count;
-    if n.inside {
-        if 0 < at {
-            at -= 1;
-        }
+impl Numbers {
+    // The number at a place, 0 past the last.
+    pub(crate) fn at(&self, place: usize) -> u16 {
+        self.all.get(place).copied().unwrap_or(0)
     }
-    if at < MOST_NUMBERS {
-        let v = n.all[at];
-        next.all[at] = longer(v, digit);
-        next.inside = true;
-        next.count = at + 1;
+
+    // Four of them, from a place on.
+    pub(crate) fn four(&self, from: usize) -> [u16; 4]
+        requires { from ≤ 2 }
+    {
+        [
+            self.at(from),
+            self.at(from + 1),
+            self.at(from + 2),
+            self.at(from + 3),
+        ]
     }
-    next
+
+    pub(crate) fn told(&self) -> &[u16] {
+        &self.all[..self.count.min(MOST_NUMBERS)]
+    }
 }
 
-fn with_byte(n: Numbers, byte: u8) -> Numbers {
-    if byte >= b'0' {
-        if byte <= b'9' {
-            return with_digit(n, byte - b'0');
-        }
-    }
-    let mut next = n;
-    next.inside = false;
-    next
+// Past 65,535 it goes on from 0.
+fn number_of(digits: &[u8]) -> u16 {
+    digits.iter().fold(
+        0u16,
+        |v, digit| v
+            .wrapping_mul(10)
+            .wrapping_add(u16::from(digit.wrapping_sub(b'0'))),
+    )
 }
 
+// The first of them; those past a '#' do not count.
 pub(crate) fn numbers_of(line: &[u8]) -> Numbers {
-    let mut all = Numbers {
-        count: 0,
-        inside: false,
-        all: [0; MOST_NUMBERS],
-    };
-    let mut k: usize = 0;
-    while k < line.len() {
-        let byte = line[k];
-        if byte == b'#' {
-            return all;
+    let mut all = [0u16; MOST_NUMBERS];
+    let mut count: usize = 0;
+    let read = line.split(|byte| *byte == b'#').next().unwrap_or(line);
+    for digits in read
+        .split(|byte| !byte.is_ascii_digit())
+        .filter(|digits| !digits.is_empty())
+    {
+        if let Some(place) = all.get_mut(count) {
+            *place = number_of(digits);
+            count += 1;
         }
-        all = with_byte(all, byte);
-        k += 1;
     }
-    all
+    Numbers { count, all }
 }

@@ -5,8 +5,8 @@ use Rattle.bends.proofs.+toward_visit.Given as goal
 
 -- twice the distance from q
 abbrev pub decreases-toward : goal.decreases-toward
-decreases-toward l = distance l.d.now (crossing l.q) + distance l.d.now (crossing l.q)
+decreases-toward l = distance l.chart.now.d.now (crossing l.q) + distance l.chart.now.d.now (crossing l.q)
 
 -- and one more
 abbrev pub decreases-visit : goal.decreases-visit
-decreases-visit l = distance l.d.now (crossing l.q) + distance l.d.now (crossing l.q) + 1
+decreases-visit l = distance l.chart.now.d.now (crossing l.q) + distance l.chart.now.d.now (crossing l.q) + 1

@@ -4,5 +4,5 @@ use Rattle.bends.proofs.count.Goals as goal
 
 pub returns : goal.returns
 returns c =
-    rw (c.write.ensures, c.lesser-2.ensures, c.lesser.ensures)
-    (counted _ _ _ _ _ c.requires _ _ c.least-h.ensures c.least-v.ensures)
+    rw (c.write.ensures, c.min-2.ensures, c.min.ensures)
+    (counted _ _ _ _ _ c.args.chart.now.charted c.requires _ _ c.least-h.ensures c.least-v.ensures)

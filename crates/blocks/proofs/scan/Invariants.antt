@@ -6,10 +6,7 @@ use Rattle.blocks.specs.Laws.Scanned.{Ahead}
 use Rattle.blocks.proofs.scan.Given as goal
 
 abbrev pub invariant-loop-k : goal.invariant-loop-k
-invariant-loop-k l = (l.end ≤ most_blocks) × Ahead l.b l.p l.i l.end l.k
-
-abbrev pub decreases-loop-k : goal.decreases-loop-k
-decreases-loop-k l = l.end - l.k
+invariant-loop-k l = (l.k-end ≤ most_blocks) × Ahead l.b l.p l.i l.k-end l.k
 
 abbrev pub invariant-scan : goal.invariant-scan
 invariant-scan l = (l.i ≤ l.n) × ((j : ℕ) → j < l.i → ¬ (Stops l.b l.look l.p j))

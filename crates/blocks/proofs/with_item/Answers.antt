@@ -7,4 +7,4 @@ pub returns-then-runs-eq0 : goal.returns-then-runs-eq0
 returns-then-runs-eq0 c = adds_keep_out _ _ _ _ (omega arith) c.grow.ensures
 
 pub returns : goal.returns
-returns c = adds_wire _ _ _ _ (omega arith) c.grow-2.ensures
+returns c = adds_wire _ _ _ _ (omega arith) (rw c.from.ensures at c.grow-2.ensures)

@@ -3,7 +3,7 @@
 use Prim.Native.Nat.{ℕ, zero, suc, ◌<◌}
 use Rattle.std.proofs.Common.{eq-or-lt_of_le, sym, ap, ⊎_elim}
 use native.Mathlib.Omega.{arith}
-use Rattle.std.specs.Prelude.{◌≡◌, refl, Bool, true, T}
+use Rattle.std.specs.Prelude.{◌≡◌, refl, Bool, true, T, Option, Some, None, is_some}
 use Rattle.std.proofs.Math.Path.{subst}
 use Rattle.std.proofs.Math.Logic.{inl, inr}
 use mathlib.Core.List.{List, [], ◌∷◌}
@@ -19,22 +19,20 @@ use Rattle.blocks.specs.declared.Blocks.{Blocks}
 use Rattle.blocks.specs.declared.Place.{Place}
 use Rattle.blocks.specs.declared.Look.{Look}
 use Rattle.blocks.specs.declared.Look.TheVariants.{KeepOuts, Wires}
-use Rattle.blocks.specs.declared.Found.{Found}
-use Rattle.blocks.specs.declared.Found.TheVariants.{At, Nothing}
-use Rattle.blocks.specs.Flat.{place_area, looked, Stops, FirstIs, is_found, Hit, is_wire, Held, HeldOf}
+use Rattle.blocks.specs.Flat.{place_area, looked, Stops, FirstIs, Hit, is_wire, Held, HeldOf}
 use Rattle.paper.specs.Laws.Standing.{thing_at}
 use Rattle.blocks.specs.Laws.Held.{items_are, held_wire, held_blocks}
 
 -- ---- one answer
 
-pub one_found : (b : Blocks) (look : Look) (p : Place) (r q : Found) → FirstIs b look p r → FirstIs b look p q → r ≡ q
+pub one_found : (b : Blocks) (look : Look) (p : Place) (r q : Option ℕ) → FirstIs b look p r → FirstIs b look p q → r ≡ q
 unfolding FirstIs
-one_found b look p (At i) (At j) f g =
+one_found b look p (Some i) (Some j) f g =
     ⊎_elim (λ h. absurd (g.1 i h.0 f.0))
-    (λ h. ⊎_elim (λ e. ap At (sym e)) (λ l. absurd (f.1 j l g.0)) (eq-or-lt_of_le h.0)) (lt_cases i j)
-one_found b look p (At i) Nothing f g = absurd (g i f.0)
-one_found b look p Nothing (At j) f g = absurd (f j g.0)
-one_found b look p Nothing Nothing f g = refl
+    (λ h. ⊎_elim (λ e. ap Some (sym e)) (λ l. absurd (f.1 j l g.0)) (eq-or-lt_of_le h.0)) (lt_cases i j)
+one_found b look p (Some i) None f g = absurd (g i f.0)
+one_found b look p None (Some j) f g = absurd (f j g.0)
+one_found b look p None None f g = refl
 
 -- ---- the first of the things
 
@@ -45,9 +43,9 @@ FirstOf P (t ∷ ts) zero = P t
 FirstOf P (t ∷ ts) (suc i) = (¬ (P t)) × FirstOf P ts i
 
 -- that place was found, or no thing has the property
-unfoldable pub FoundAmong : (Thing → Type 0) → List Thing → Found → Type 0
-FoundAmong P ts (At i) = FirstOf P ts i
-FoundAmong P ts Nothing = ¬ (Any P ts)
+unfoldable pub FoundAmong : (Thing → Type 0) → List Thing → Option ℕ → Type 0
+FoundAmong P ts (Some i) = FirstOf P ts i
+FoundAmong P ts None = ¬ (Any P ts)
 
 module _ (P : Thing → Type 0) where
   pub first_of : (ts : List Thing) (i : ℕ) → i < length ts → P (thing_at ts i) → ((j : ℕ) → j < i → ¬ (P (thing_at ts j))) → FirstOf P ts i
@@ -75,10 +73,10 @@ module _ (P Q : Thing → Type 0) (to : (t : Thing) → P t → Q t) (from : (t 
   first_imp (t ∷ ts) zero f = to t f
   first_imp (t ∷ ts) (suc i) f = (λ q. f.0 (from t q), first_imp ts i f.1)
 
-  found_imp : (ts : List Thing) (r : Found) → FoundAmong P ts r → FoundAmong Q ts r
+  found_imp : (ts : List Thing) (r : Option ℕ) → FoundAmong P ts r → FoundAmong Q ts r
   unfolding FoundAmong
-  found_imp ts (At i) f = first_imp ts i f
-  found_imp ts Nothing f = λ a. f (any_imp Q P from ts a)
+  found_imp ts (Some i) f = first_imp ts i f
+  found_imp ts None f = λ a. f (any_imp Q P from ts a)
 
 -- the thing counts and blocks the place
 unfoldable pub StopsAt : ℕ → Sort → Look → Place → Thing → Type 0
@@ -100,24 +98,24 @@ module _ {b : Blocks} {c : ℕ} {to : Sort} {ts : List Thing} (held : Held b c t
   )
 
   -- the thing that is found is the first, so that its id can be told
-  pub scan_item : (r : Found) → FirstIs b look p r → FoundAmong (StopsAt c to look p) ts r
+  pub scan_item : (r : Option ℕ) → FirstIs b look p r → FoundAmong (StopsAt c to look p) ts r
   unfolding FirstIs FoundAmong
-  scan_item (At i) f =
+  scan_item (Some i) f =
       let s = stops_thing i f.0 in
       first_of (StopsAt c to look p) ts i s.0 s.1 (λ j l q. f.1 j l (thing_stops j (omega (arith, s.0)) q))
-  scan_item Nothing f = λ a. let s = some_at (StopsAt c to look p) ts a in f s.0 (thing_stops s.0 s.1 s.2)
+  scan_item None f = λ a. let s = some_at (StopsAt c to look p) ts a in f s.0 (thing_stops s.0 s.1 s.2)
 
 -- ---- whether something was found
 
 -- an item was found just if P
-abbrev Whether : Found → Type 0 → Type 0
-Whether (At i) P = P
-Whether Nothing P = ¬ P
+abbrev Whether : Option ℕ → Type 0 → Type 0
+Whether (Some i) P = P
+Whether None P = ¬ P
 
-whether_any : (P : Thing → Type 0) (ts : List Thing) (r : Found) → FoundAmong P ts r → Whether r (Any P ts)
+whether_any : (P : Thing → Type 0) (ts : List Thing) (r : Option ℕ) → FoundAmong P ts r → Whether r (Any P ts)
 unfolding FoundAmong
-whether_any P ts (At i) f = first_any P ts i f
-whether_any P ts Nothing f = f
+whether_any P ts (Some i) f = first_any P ts i f
+whether_any P ts None f = f
 
 -- ---- whether something of a sort blocks it
 
@@ -139,24 +137,24 @@ own_sort (keep_out i r) = refl
 own_sort (wire i ps) = refl
 
 -- by an item of the sort, whatever the place
-pub scan_sort : {b : Blocks} (l : Layout) (to : Sort) → HeldOf b to l → (p : Place) (s : Sort) (r : Found) → FirstIs b (look_for s) p r
+pub scan_sort : {b : Blocks} (l : Layout) (to : Sort) → HeldOf b to l → (p : Place) (s : Sort) (r : Option ℕ) → FirstIs b (look_for s) p r
     → FoundAmong (Bars l to s (place_area p)) l.items r
 unfolding Bars StopsAt
 scan_sort l to held p s r f =
     found_imp (StopsAt l.size.clearance to (look_for s) p) _ (λ t h. (looked_sort s t h.0, h.1))
     (λ t h. (subst (λ s. looked (look_for s) (is_wire t) ≡ true) h.0 (own_sort t), h.1)) l.items r (scan_item held (look_for s) p r f)
 
-scan_any : {b : Blocks} (l : Layout) (to : Sort) → HeldOf b to l → (p : Place) (s : Sort) (r : Found) → FirstIs b (look_for s) p r
+scan_any : {b : Blocks} (l : Layout) (to : Sort) → HeldOf b to l → (p : Place) (s : Sort) (r : Option ℕ) → FirstIs b (look_for s) p r
     → Whether r (Any (Bars l to s (place_area p)) l.items)
 scan_any l to held p s r f = whether_any (Bars l to s (place_area p)) l.items r (scan_sort l to held p s r f)
 
 -- ---- the same of `hit`
 
-says_whether : (f : Found) (P : Type 0) → Whether f P → Says (is_found f) P
-says_whether (At i) P h = says_always h
-says_whether Nothing P h = says_never h
+says_whether : (f : Option ℕ) (P : Type 0) → Whether f P → Says (is_some f) P
+says_whether (Some i) P h = says_always h
+says_whether None P h = says_never h
 
-hit_says : (b : Blocks) (look : Look) (p : Place) (P : Type 0) (r : Bool) → ((f : Found) → FirstIs b look p f → Whether f P) → Hit b look p r → Says r P
+hit_says : (b : Blocks) (look : Look) (p : Place) (P : Type 0) (r : Bool) → ((f : Option ℕ) → FirstIs b look p f → Whether f P) → Hit b look p r → Says r P
 unfolding Hit
 hit_says b look p P r each h = subst (λ r. Says r P) (sym h.2) (says_whether h.0 P (each h.0 h.1))
 

@@ -18,7 +18,7 @@ use Rattle.paper.specs.Layout.{Thing, keep_out, wire, Sort, keep_outs, wires, so
 use Rattle.paper.specs.Padding.{item_of}
 use Rattle.paper.specs.Laws.Back.{thing_of}
 use Rattle.paper.specs.Laws.Lists.{any_image, any_back}
-use Rattle.paper.specs.Laws.Says.{Says, says_always, says_never}
+use Rattle.paper.specs.Laws.Says.{Says, says_as, says_always, says_never}
 use Rattle.blocks.specs.Flat.{listed}
 use Rattle.blocks.specs.Growing.{stretch_at, stretched}
 use Rattle.blocks.specs.Meeting.{Placed, block_number, kept_from}
@@ -48,24 +48,19 @@ module _ {A : Type 0} (P : A → Type 0) (f : ℕ → A) where
   none_listed i (suc n) miss (inr h) =
       none_listed (suc i) n (λ k l p. let e : i + suc k ≡ suc i + k = omega arith in miss (suc k) (omega arith) (rw e p)) h
 
-  -- what a search from the first place on finds
-  found_at : (n k : ℕ) → k < n → P (f k) → Any P (listed f 0 n)
-  found_at n k h p = any_listed 0 n k h (rw zero-add p)
-
-  found_none : (n k : ℕ) → n ≤ k → ((j : ℕ) → j < k → ¬ (P (f j))) → ¬ (Any P (listed f 0 n))
-  found_none n k h miss = none_listed 0 n (λ j l p. miss j (omega arith) (rw zero-add at p))
+  -- some place below n has one
+  listed_said : {r : Bool} (n : ℕ) → Says r ((k : ℕ) × (k < n) × P (f k)) → Says r (Any P (listed f 0 n))
+  listed_said {r = true} n s = let (k, h, p) = s.fact tt in says_always (any_listed 0 n k h (rw zero-add p))
+  listed_said {r = false} n s = says_never (none_listed 0 n (λ k h p. s.test (k, h, rw zero-add at p)))
 
 -- ---- one item's stretches against a place
 
-module _ (m : Item) (n c : ℕ) (a : Area) where
-  pub near_at : (k : ℕ) → k < n → Hits (widened c (stretch_at m k)) a → Says true (Blocked (stretched m n c) a)
-  unfolding Blocked
-  near_at k h p = says_always (any_image (λ b. Hits b a) (widened c) _ (found_at (λ r. Hits (widened c r) a) (stretch_at m) n k h p))
-
-  pub near_none : (k : ℕ) → n ≤ k → ((j : ℕ) → j < k → ¬ (Hits (widened c (stretch_at m j)) a)) → Says false (Blocked (stretched m n c) a)
-  unfolding Blocked
-  near_none k h miss =
-      says_never (λ p. found_none (λ r. Hits (widened c r) a) (stretch_at m) n k h miss (any_back (λ b. Hits b a) (widened c) _ p))
+pub near_said : (m : Item) (n c : ℕ) (a : Area) {r : Bool} → Says r ((k : ℕ) × (k < n) × Hits (widened c (stretch_at m k)) a)
+    → Says r (Blocked (stretched m n c) a)
+unfolding Blocked
+near_said m n c a s =
+    says_as (any_image (λ b. Hits b a) (widened c) _) (any_back (λ b. Hits b a) (widened c) _)
+    (listed_said (λ r. Hits (widened c r) a) (stretch_at m) n s)
 
 -- ---- an item, by its runs
 
@@ -119,29 +114,14 @@ distance_for false false c = refl
 distance_is : (t u : Item) (c : ℕ) → kept_from t.runs u.runs c ≡ distance c (sort_of (thing_of u)) (sort_of (thing_of t))
 distance_is t u c = distance_for (eqb t.runs 0) (eqb u.runs 0) c ∙ sym (ap₂ (distance c) (sort_is u) (sort_is t))
 
--- the item t blocks the stretch of u at k
-unfoldable pub Nearer : Item → Item → ℕ → ℕ → Type 0
-Nearer t u c k = Blocked (stretched t (block_number t.runs) (kept_from t.runs u.runs c)) (stretch_at u k)
-
--- as the code has it: the number of blocks, the distance and the place, each in a variable
-pub nearer_said : (t u : Item) (c k n d : ℕ) (a : Area) (r : Bool) → n ≡ block_number t.runs → d ≡ kept_from t.runs u.runs c
-    → a ≡ stretch_at u k → Says r (Blocked (stretched t n d) a) → Says r (Nearer t u c k)
-unfolding Nearer
-nearer_said t u c k n d a r e f g s =
-    subst (λ a. Says r (Blocked (stretched t (block_number t.runs) (kept_from t.runs u.runs c)) a)) g
-    (subst₂ (λ n d. Says r (Blocked (stretched t n d) a)) e f s)
-
 module _ (t u : Item) (p : Placed t) (q : Placed u) (c : ℕ) where
   blocks_are : stretched t (block_number t.runs) (kept_from t.runs u.runs c) ≡ blocks_of c (sort_of (thing_of u)) (thing_of t)
   unfolding blocks_of
   blocks_are = ap₂ (λ d l. map (widened d) l) (distance_is t u c) (areas_are t p)
 
-  pub meet_at : (k : ℕ) → k < block_number u.runs → Nearer t u c k → Says true (Meet c (thing_of t) (thing_of u))
-  unfolding Meet Nearer
-  meet_at k h n =
-      says_always (subst₂ (λ bs l. Any (Blocked bs) l) blocks_are (areas_are u q) (found_at (Blocked _) (stretch_at u) _ k h n))
-
-  pub meet_none : (k : ℕ) → block_number u.runs ≤ k → ((j : ℕ) → j < k → ¬ (Nearer t u c j)) → Says false (Meet c (thing_of t) (thing_of u))
-  unfolding Meet Nearer
-  meet_none k h miss =
-      says_never (λ m. found_none (Blocked _) (stretch_at u) _ k h miss (subst₂ (λ bs l. Any (Blocked bs) l) (sym blocks_are) (sym (areas_are u q)) m))
+  -- some stretch of u is blocked by t
+  pub meet_said : {r : Bool} → Says r ((k : ℕ) × (k < block_number u.runs)
+      × Blocked (stretched t (block_number t.runs) (kept_from t.runs u.runs c)) (stretch_at u k)) → Says r (Meet c (thing_of t) (thing_of u))
+  unfolding Meet
+  meet_said {r} s =
+      subst₂ (λ bs l. Says r (Any (Blocked bs) l)) blocks_are (areas_are u q) (listed_said (Blocked _) (stretch_at u) (block_number u.runs) s)

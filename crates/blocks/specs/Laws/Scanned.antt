@@ -3,7 +3,7 @@
 use Prim.Native.Nat.{ℕ, suc, ◌+◌, ◌-◌, ◌≤◌, ◌<◌}
 use native.Mathlib.Omega.{arith}
 use Rattle.std.proofs.Common.{lt_of_lt_of_le, add-one, ◌∙◌, inl, inr}
-use Rattle.std.specs.Prelude.{◌≡◌, Bool, true, false, ◌↔◌, ◌∷◌, get_or}
+use Rattle.std.specs.Prelude.{◌≡◌, Bool, true, false, ◌↔◌, ◌∷◌, get_or, Some, None}
 use Rattle.std.proofs.Math.Path.{sym, subst}
 use Rattle.std.proofs.Math.Logic.{⊎_elim}
 use Rattle.std.proofs.Math.Dec.{T}
@@ -11,7 +11,6 @@ use Rattle.paper.specs.Grid.{Any, Hits, Blocked}
 use Rattle.blocks.specs.declared.Blocks.{Blocks}
 use Rattle.blocks.specs.declared.Place.{Place}
 use Rattle.blocks.specs.declared.Look.{Look}
-use Rattle.blocks.specs.declared.Found.TheVariants.{At, Nothing}
 use Rattle.blocks.specs.Flat.{place_area, block_at, listed, blocks_from, blocks_in, looked, Stops, FirstIs}
 
 -- ---- the blocks of item i, which end at `end`
@@ -53,10 +52,10 @@ module _ (b : Blocks) (look : Look) (p : Place) (i : ℕ) where
   not_blocked n s = n s.2
 
   pub first_here : (r : Bool) → i < b.items → r ≡ looked look (get_or b.wires i false) → r ≡ true → Blocked (blocks_in b i) (place_area p)
-      → ((j : ℕ) → j < i → ¬ (Stops b look p j)) → FirstIs b look p (At i)
+      → ((j : ℕ) → j < i → ¬ (Stops b look p j)) → FirstIs b look p (Some i)
   unfolding Stops FirstIs
   first_here r h e t q before = ((h, sym e ∙ t, q), before)
 
-  pub none_left : b.items ≤ i → ((j : ℕ) → j < i → ¬ (Stops b look p j)) → FirstIs b look p Nothing
+  pub none_left : b.items ≤ i → ((j : ℕ) → j < i → ¬ (Stops b look p j)) → FirstIs b look p None
   unfolding Stops FirstIs
   none_left h before = λ j s. before j (lt_of_lt_of_le s.0 h) s

@@ -1,9 +1,8 @@
 -- Which bytes are a piece: by its letter and the byte after it, it has one size. And how far into the room they reach.
 -- Assumes nothing.
-use Rattle.std.specs.Prelude.{ℕ, ◌+◌, ◌≤◌, ◌≡◌, refl, List, [], ◌∷◌, ◌++◌, length, get_or, take}
+use Rattle.std.specs.Prelude.{ℕ, ◌+◌, ◌*◌, ◌≤◌, ◌≡◌, refl, Option, Some, List, [], ◌∷◌, ◌++◌, length, get_or, take}
 use Rattle.std.proofs.Common.{arith, sym, ap, ◌∙◌, inl, inr, length-append, length-take-le}
 use Rattle.checkprint.specs.declared.Last.TheVariants.{Bad}
-use Rattle.checkprint.specs.declared.Stop.TheVariants.{Over}
 use Rattle.checkprint.specs.Checked.{IsRecord, IsWire, IsPiece, SizeFor, StopFor}
 
 -- ---- by the letter
@@ -22,23 +21,23 @@ piece_wire bs (inr w) n = w
 
 -- ---- by the size
 
-one_size : (bs : List ℕ) (size : ℕ) → SizeFor (get_or bs 0 0) (get_or bs 1 0) size → IsPiece bs → length bs ≡ size
-one_size bs size (inl s) (inl r) = r.1 ∙ sym s.1
+one_size : (bs : List ℕ) (size : Option ℕ) → SizeFor (get_or bs 0 0) (get_or bs 1 0) size → IsPiece bs → size ≡ Some (length bs)
+one_size bs size (inl s) (inl r) = s.1 ∙ ap Some (sym r.1)
 one_size bs size (inl s) (inr w) = absurd (omega (arith, s.0, w.0))
 one_size bs size (inr (inl s)) (inl r) = absurd (omega (arith, s.0, r.0))
-one_size bs size (inr (inl s)) (inr w) = w.1 ∙ sym s.1
+one_size bs size (inr (inl s)) (inr w) = s.1 ∙ ap Some (sym w.1)
 one_size bs size (inr (inr s)) (inl r) = absurd (s.0 r.0)
 one_size bs size (inr (inr s)) (inr w) = absurd (s.1 w.0)
 
-pub size_piece : (bs : List ℕ) (size : ℕ) → SizeFor (get_or bs 0 0) (get_or bs 1 0) size → 2 ≤ size → length bs ≡ size → IsPiece bs
-size_piece bs size (inl s) h e = inl (s.0, e ∙ s.1)
-size_piece bs size (inr (inl s)) h e = inr (s.0, e ∙ s.1)
-size_piece bs size (inr (inr s)) h e = absurd (omega (arith, s.2))
+pub size_piece : (bs : List ℕ) (size : Option ℕ) → SizeFor (get_or bs 0 0) (get_or bs 1 0) size → size ≡ Some (length bs) → IsPiece bs
+size_piece bs size (inl s) e = let k : length bs ≡ 13 = cc in inl (s.0, k)
+size_piece bs size (inr (inl s)) e = let k : length bs ≡ 2 + 2 * get_or bs 1 0 = cc in inr (s.0, k)
+size_piece bs size (inr (inr s)) e = absurd (cc)
 
-pub size_two : (letter next size : ℕ) → SizeFor letter next size → ¬ (size ≡ 0) → 2 ≤ size
-size_two letter next size (inl s) n = omega (arith, s.1)
-size_two letter next size (inr (inl s)) n = omega (arith, s.1)
-size_two letter next size (inr (inr s)) n = absurd (n s.2)
+pub size_two : (letter next : ℕ) (size : Option ℕ) (n : ℕ) → SizeFor letter next size → size ≡ Some n → 2 ≤ n
+size_two letter next size n (inl s) e = let k : n ≡ 13 = cc in omega arith
+size_two letter next size n (inr (inl s)) e = let k : n ≡ 2 + 2 * next = cc in omega arith
+size_two letter next size n (inr (inr s)) e = absurd (cc)
 
 -- ---- what the bytes say
 
@@ -50,12 +49,12 @@ pub some : (bs : List ℕ) → ¬ (length bs ≡ 0) → ¬ (bs ≡ [])
 some bs n e = n (ap length e)
 
 -- a letter alone is no piece, nor are bytes of another size
-pub short_bad : (bs : List ℕ) → length bs ≡ 1 → StopFor bs (Over Bad)
+pub short_bad : (bs : List ℕ) → length bs ≡ 1 → StopFor bs (Some Bad)
 short_bad bs e = (some bs (λ z. omega arith), λ p. omega (arith, piece_two bs p))
 
-pub size_bad : (bs : List ℕ) (size : ℕ) → SizeFor (get_or bs 0 0) (get_or bs 1 0) size → ¬ (length bs ≡ 0) → ¬ (size ≡ length bs)
-    → StopFor bs (Over Bad)
-size_bad bs size s h n = (some bs h, λ p. n (sym (one_size bs size s p)))
+pub size_bad : (bs : List ℕ) (size : Option ℕ) → SizeFor (get_or bs 0 0) (get_or bs 1 0) size → ¬ (length bs ≡ 0) → ¬ (size ≡ Some (length bs))
+    → StopFor bs (Some Bad)
+size_bad bs size s h n = (some bs h, λ p. n (one_size bs size s p))
 
 -- ---- in the room
 

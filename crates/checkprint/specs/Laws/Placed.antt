@@ -1,6 +1,6 @@
 -- Where the printing stands: at the start, with the lines that waited written, and a piece further; and where it ends.
 -- Assumes nothing.
-use Rattle.std.specs.Prelude.{ℕ, ◌+◌, ◌-◌, ◌≤◌, ◌<◌, ◌≡◌, refl, ◌⊎◌, List, [], ◌∷◌, ◌++◌, length, take, drop}
+use Rattle.std.specs.Prelude.{ℕ, ◌+◌, ◌-◌, ◌≤◌, ◌<◌, ◌≡◌, refl, ◌⊎◌, Some, Ok, List, [], ◌∷◌, ◌++◌, length, take, drop}
 use Rattle.std.proofs.Common.{arith, sym, ap, ◌∙◌, inl, inr, append_assoc, append-nil, length-append, take_at, length-take-le}
 use Rattle.std.proofs.Math.Seq.{take-append-add}
 use Rattle.paper.specs.declared.Board.{Board}
@@ -8,9 +8,8 @@ use Rattle.paper.specs.Layout.{fresh}
 use Rattle.paper.specs.Padding.{board_of, WellFormed}
 use Rattle.text.specs.Text.{Puts}
 use Rattle.text.specs.Laws.Written.{puts_length}
+use Rattle.checkprint.specs.declared.Last.{Last}
 use Rattle.checkprint.specs.declared.Last.TheVariants.{End, Bad, Cut}
-use Rattle.checkprint.specs.declared.Stop.{Stop}
-use Rattle.checkprint.specs.declared.Stop.TheVariants.{Going, Over, Unread, Unwritten}
 use Rattle.checkprint.specs.declared.Place.{Place}
 use Rattle.checkprint.specs.declared.Done.{Done}
 use Rattle.checkprint.specs.Checked.{most_pieces, StopFor, StopAfter, Acts, feeds, judges, ActsIn}
@@ -104,26 +103,17 @@ stands_more p buffer part piece d s r = record {
 
 -- ---- where it ends
 
-pub counts_end : (n m : ℕ) (s : Stop) → ¬ (s ≡ Going) → Counts n s m → EndsAt s m
-counts_end n m Going g c = absurd (g refl)
-counts_end n m (Over l) g c = c
-counts_end n m Unread g c = c
-counts_end n m Unwritten g c = c
+pub counts_end : (n m : ℕ) (l : Last) → Counts n (Ok (Some l)) m → EndsAt (Ok l) m
+counts_end n m l c = c
 
 -- by what was read for a piece
-pub for_ends : (bs : List ℕ) (n : ℕ) (s : Stop) → n < most_pieces → ¬ (s ≡ Going) → StopFor bs s → Counts n s n
-for_ends bs n Going h g a = absurd (g refl)
-for_ends bs n (Over End) h g a = omega arith
-for_ends bs n (Over Bad) h g a = h
-for_ends bs n (Over Cut) h g a = absurd a
-for_ends bs n Unread h g a = absurd a
-for_ends bs n Unwritten h g a = absurd a
+pub for_ends : (bs : List ℕ) (n : ℕ) (l : Last) → n < most_pieces → StopFor bs (Some l) → Counts n (Ok (Some l)) n
+for_ends bs n End h a = omega arith
+for_ends bs n Bad h a = h
+for_ends bs n Cut h a = absurd a
 
 -- and after the last piece
-pub after_ends : (bs : List ℕ) (s : Stop) → StopAfter bs s → EndsAt s most_pieces
-after_ends bs Going a = a
-after_ends bs (Over End) a = omega arith
-after_ends bs (Over Bad) a = absurd a
-after_ends bs (Over Cut) a = refl
-after_ends bs Unread a = absurd a
-after_ends bs Unwritten a = absurd a
+pub after_ends : (bs : List ℕ) (l : Last) → StopAfter bs l → EndsAt (Ok l) most_pieces
+after_ends bs End a = omega arith
+after_ends bs Bad a = absurd a
+after_ends bs Cut a = refl

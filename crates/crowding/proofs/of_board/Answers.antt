@@ -1,35 +1,16 @@
 -- `crowding::of_board` meets its contract: the tracks of each axis with no further coordinate, then their edges.
-use native.Mathlib.Omega.{arith}
-use Prim.Native.Nat.{ℕ, ◌≤◌}
-use mathlib.Core.Path.{◌≡◌, refl, ◌∙◌}
-use mathlib.Core.Logic.{inl, inr}
-use mathlib.Core.List.{List}
+use Rattle.std.proofs.Common.{◌≡◌, refl, inl, inr, arith}
 use Rattle.paper.specs.declared.Board.{Board}
-use Rattle.paper.specs.Layout.{Thing, Sort, blocks_to, InRange}
+use Rattle.paper.specs.Layout.{InRange}
 use Rattle.paper.specs.Padding.{WellFormed}
 use Rattle.paper.specs.Laws.Back.{layout_of, well_formed}
 use Rattle.paper.specs.Laws.Next.{laid}
 use Rattle.paper.proofs.Seams.{open_iff}
-use Rattle.blocks.specs.declared.Blocks.{Blocks}
-use Rattle.blocks.specs.Flat.{listed, block_at, first_at, Held}
 use Rattle.blocks.specs.Laws.Board.{drawn}
 use Rattle.blocks.specs.Laws.Held.{held_fits, flat_held}
-use Rattle.edges.specs.Marks.{box_at}
 use Rattle.crowding.specs.Crowding.{IndexOf}
 use Rattle.crowding.specs.Laws.Opened.{built_alike}
 use Rattle.crowding.proofs.of_board.Goals as goal
-
--- the blocks are few
-few : {b : Blocks} {c : ℕ} {to : Sort} {ts : List Thing} → Held b c to ts → first_at b b.items ≤ 46
-few {b} h = (held_fits h).ends_few b.items (omega arith)
-
--- the same blocks, told by their arrays
-arrays : (b : Blocks) (n : ℕ) → listed (box_at b.x0 b.y0 b.x1 b.y1 b.c) 0 n ≡ listed (block_at b) 0 n
-unfolding box_at block_at
-arrays b n = refl
-
-same : {b : Blocks} {c : ℕ} {to : Sort} {ts : List Thing} → Held b c to ts → listed (box_at b.x0 b.y0 b.x1 b.y1 b.c) 0 (first_at b b.items) ≡ blocks_to c to ts
-same {b} h = arrays b (first_at b b.items) ∙ flat_held h
 
 -- a board after bounds has a width and a height
 range : (b : Board) → WellFormed b → ¬ (b.size.w ≡ 0) → InRange b.size
@@ -43,17 +24,17 @@ returns-then-size-eq0 c = inl (c.if-size-eq0.true, c.no_index.ensures)
 pub of_board-held-requires : goal.of_board-held-requires
 of_board-held-requires c = drawn _ c.requires
 
-pub offset_bounds-held-last : goal.offset_bounds-held-last
-offset_bounds-held-last c = omega (arith, (held_fits c.of_board-held.ensures).items_few)
+pub offset_bounds-held-held : goal.offset_bounds-held-held
+offset_bounds-held-held c = omega (arith, (held_fits c.of_board-held.ensures).items_few)
 
-pub bounds-held-last : goal.bounds-held-last
-bounds-held-last c = omega (arith, (held_fits c.of_board-held.ensures).items_few)
+pub bounds-held-held : goal.bounds-held-held
+bounds-held-held c = omega (arith, (held_fits c.of_board-held.ensures).items_few)
 
 pub of_axis-x-requires : goal.of_axis-x-requires
-of_axis-x-requires c = (few c.of_board-held.ensures, omega arith)
+of_axis-x-requires c = ((held_fits c.of_board-held.ensures).ends_few _ (omega arith), omega arith)
 
 pub of_axis-y-requires : goal.of_axis-y-requires
-of_axis-y-requires c = (few c.of_board-held.ensures, omega arith)
+of_axis-y-requires c = ((held_fits c.of_board-held.ensures).ends_few _ (omega arith), omega arith)
 
 pub on_tracks-requires : goal.on_tracks-requires
 on_tracks-requires c =
@@ -61,7 +42,7 @@ on_tracks-requires c =
     record {
       wide = z.0.0;
       high = z.1.0;
-      few = few c.of_board-held.ensures;
+      fits = held_fits c.of_board-held.ensures;
       on_x = c.of_axis-x.ensures;
       on_y = c.of_axis-y.ensures;
     }
@@ -75,5 +56,5 @@ returns c =
     inr (
       c.if-size-eq0.false,
       built_alike refl refl (λ a p. let o = open_iff l.size l.items a p some in (o.1, o.0))
-          (rw (same c.of_board-held.ensures) at c.on_tracks.ensures),
+          (rw (flat_held c.of_board-held.ensures) at c.on_tracks.ensures),
     )

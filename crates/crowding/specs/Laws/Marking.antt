@@ -1,20 +1,16 @@
 -- From marks to words: bits by their places.
 -- Assumes nothing.
-use Rattle.std.specs.Prelude.{ℕ, zero, suc, ◌+◌, ◌-◌, ◌*◌, ◌^◌, ◌≤◌, ◌<◌, ◌≡◌, refl, Bool, true, false, List, [], ◌∷◌, get_or, take, drop, set, replicate}
-use Rattle.std.proofs.Common.{arith, eq-or-lt_of_le, sym, ap, ap₂, ◌∙◌, ⊎_elim, length-set, get_or-set_same, get_or-set_other, pow_mono}
-use Rattle.std.proofs.lemmas.List.{length-replicate}
+use Rattle.std.specs.Prelude.{ℕ, zero, suc, ◌+◌, ◌-◌, ◌*◌, ◌^◌, ◌≤◌, ◌<◌, ◌≡◌, refl, Bool, true, false, List, [], ◌∷◌, get_or, take, drop, replicate, min}
+use Rattle.std.proofs.Common.{arith, sym, ap, ap₂, ◌∙◌, pow_mono}
+use Rattle.std.proofs.lemmas.List.{length-replicate, take_all, drop_all}
+use Rattle.std.specs.Int.{from_bool}
+use Rattle.std.proofs.Math.Decide.{dec_lt}
 use Rattle.blocks.specs.Flat.{listed}
 use Rattle.blocks.specs.Laws.Lists.{length_listed}
-use Rattle.index.specs.declared.Edges.{Edges}
 use Rattle.index.specs.Bits.{digit, number, words_of, no_edges}
 use Rattle.index.specs.Laws.Arrays.{replicate_at}
-use Rattle.crowding.specs.Filling.{cell_of, bits_of, Filled}
+use Rattle.crowding.specs.Filling.{Filled}
 use Rattle.index.specs.Laws.Words.{number_below}
-
--- every mark is on the table
-pub cell_below : (u : Bool) (k t : ℕ) → k < 96 → t < 96 → cell_of u k t < 9216
-cell_below true k t h l = omega arith
-cell_below false k t h l = omega arith
 
 -- ---- listed bits
 
@@ -39,19 +35,9 @@ drop_listed f k (suc n) (suc m) h =
     let b : n - m ≡ suc n - suc m = omega arith in
     drop_listed f (suc k) n m (omega arith) ∙ ap₂ (λ a b. listed f a b) a b
 
-take_all : {A : Type 0} (f : ℕ → A) (k n m : ℕ) → n ≤ m → take m (listed f k n) ≡ listed f k n
+none_listed : {A : Type 0} (f : ℕ → A) (k n : ℕ) → n ≡ 0 → listed f k n ≡ []
 unfolding listed
-take_all f k zero zero h = refl
-take_all f k zero (suc m) h = refl
-take_all f k (suc n) zero h = absurd (omega arith)
-take_all f k (suc n) (suc m) h = ap (λ l. f k ∷ l) (take_all f (suc k) n m (omega arith))
-
-drop_all : {A : Type 0} (f : ℕ → A) (k n m : ℕ) → n ≤ m → drop m (listed f k n) ≡ []
-unfolding listed
-drop_all f k zero zero h = refl
-drop_all f k zero (suc m) h = refl
-drop_all f k (suc n) zero h = absurd (omega arith)
-drop_all f k (suc n) (suc m) h = drop_all f (suc k) n m (omega arith)
+none_listed f k n e = rw e refl
 
 -- ---- words
 
@@ -63,43 +49,46 @@ pub digit_le : (b : Bool) → digit b ≤ 1
 digit_le true = omega arith
 digit_le false = omega arith
 
+pub digit_is : (b : Bool) → digit b ≡ from_bool b
+digit_is true = refl
+digit_is false = refl
+
+-- there is room for a bit more
+pub number_room : (f : ℕ → Bool) (k n w : ℕ) → w ≡ number (listed f k n) → n ≤ 63 → 2 * w + 1 < 2 ^ 64
+number_room f k n w e h = omega (arith, e, number_small f k n 63 h)
+
 pub number_none : (f : ℕ → Bool) (k n : ℕ) → n ≡ 0 → 0 ≡ number (listed f k n)
 unfolding number listed
 number_none f k n e = rw e
 
 -- a bit more below
-pub number_down : (f : ℕ → Bool) (t b w : ℕ) → 1 ≤ t → t ≤ b → w ≡ number (listed f t (b - t))
-    → digit (f (t - 1)) + 2 * w ≡ number (listed f (t - 1) (b - (t - 1)))
+pub number_down : (f : ℕ → Bool) (t b w d : ℕ) → d ≡ digit (f (t - 1)) → 1 ≤ t → t ≤ b → w ≡ number (listed f t (b - t))
+    → d + 2 * w ≡ number (listed f (t - 1) (b - (t - 1)))
 unfolding listed number
-number_down f t b w h l p =
+number_down f t b w d q h l p =
     let e : b - (t - 1) ≡ suc (b - t) = omega arith in
     let s : suc (t - 1) ≡ t = omega arith in
-    rw (e, s, p)
+    rw (e, s, p, q)
 
-pub words_few : (f : ℕ → Bool) (n w : ℕ) → n < 64 → w ≡ number (listed f 0 (n - 0)) → record { low = w; high = 0 } ≡ words_of (listed f 0 n)
-unfolding number
-words_few f n w h p =
-    let a : w ≡ number (take 64 (listed f 0 n)) = p ∙ ap (λ k. number (listed f 0 k)) (omega arith) ∙ ap number (sym (take_all f 0 n 64 (omega arith))) in
-    let b : 0 ≡ number (drop 64 (listed f 0 n)) = ap number (sym (drop_all f 0 n 64 (omega arith))) in
-    λ i. record { low = a i; high = b i }
-
-pub words_many : (f : ℕ → Bool) (n v w : ℕ) → 64 ≤ n → v ≡ number (listed f 0 (64 - 0)) → w ≡ number (listed f 64 (n - 64))
+-- the first 64 and the others, where there are any
+pub words_both : (f : ℕ → Bool) (n m v w : ℕ) → m ≡ min n 64 → v ≡ number (listed f 0 m) → w ≡ number (listed f m (n - m))
     → record { low = v; high = w } ≡ words_of (listed f 0 n)
-words_many f n v w h p q =
-    let a : v ≡ number (take 64 (listed f 0 n)) = p ∙ ap number (sym (take_listed f 0 n 64 h)) in
-    let b : w ≡ number (drop 64 (listed f 0 n)) = q ∙ ap number (sym (drop_listed f 0 n 64 h)) in
-    λ i. record { low = a i; high = b i }
+unfolding number
+words_both f n m v w e p q = go (dec_lt n 64)
+  where
+    go : Dec (n < 64) → record { low = v; high = w } ≡ words_of (listed f 0 n)
+    go (yes h) =
+        let a : v ≡ number (take 64 (listed f 0 n)) = p ∙ ap (λ k. number (listed f 0 k)) (omega arith) ∙ ap number (sym (take_all 64 (listed f 0 n) (omega (arith, length_listed f 0 n)))) in
+        let z : w ≡ number [] = q ∙ ap number (none_listed f m (n - m) (omega arith)) in
+        let b : w ≡ number (drop 64 (listed f 0 n)) = z ∙ ap number (sym (drop_all 64 (listed f 0 n) (omega (arith, length_listed f 0 n)))) in
+        λ i. record { low = a i; high = b i }
+    go (no h) =
+        let s : m ≡ 64 = omega arith in
+        let a : v ≡ number (take 64 (listed f 0 n)) = p ∙ ap (λ k. number (listed f 0 k)) s ∙ ap number (sym (take_listed f 0 n 64 (omega arith))) in
+        let b : w ≡ number (drop 64 (listed f 0 n)) = q ∙ ap (λ k. number (listed f k (n - k))) s ∙ ap number (sym (drop_listed f 0 n 64 (omega arith))) in
+        λ i. record { low = a i; high = b i }
 
 -- ---- the words of each track
 
 pub filled_none : (u : Bool) (d : List ℕ) (n : ℕ) → Filled u d 0 n (replicate 96 no_edges)
 filled_none u d n = record { room = length-replicate 96 no_edges; each = λ k h. absurd (omega arith); rest = λ k h. replicate_at no_edges 96 k }
-
-pub filled_more : {u : Bool} {d : List ℕ} {k n : ℕ} {es : List Edges} (e : Edges) → Filled u d k n es → k < 96 → e ≡ words_of (bits_of u d k n)
-    → Filled u d (k + 1) n (set es k e)
-filled_more {u} {d} {k} {n} {es} e f h p = record {
-  room = length-set es k e ∙ f.room;
-  each = λ j l. ⊎_elim (λ q. rw q (get_or-set_same es k e no_edges (omega (arith, f.room)) ∙ p)) (λ q. get_or-set_other es k j e no_edges (λ z. omega arith) ∙ f.each j q)
-      (eq-or-lt_of_le (let m : j ≤ k = omega arith in m));
-  rest = λ j l. get_or-set_other es k j e no_edges (λ z. omega arith) ∙ f.rest j (omega arith);
-}

@@ -6,12 +6,15 @@ use Rattle.std.proofs.Math.Path.{refl}
 use Rattle.paper.specs.Grid.{Node, Axis, level, upright, Grid, Edge, Block, grid_with}
 use Rattle.paper.specs.Layout.{across}
 use Rattle.paper.specs.Laws.Joins.{joined}
-use Rattle.blocks.specs.Flat.{listed}
+use Rattle.paper.specs.declared.Size.{Size}
+use Rattle.blocks.specs.declared.Blocks.{Blocks}
+use Rattle.blocks.specs.Flat.{listed, block_at, first_at, flat}
 use Rattle.blocks.specs.Laws.Lists.{length_listed, listed_more}
 use Rattle.tracks.specs.declared.Tracks.{Tracks}
+use Rattle.tracks.specs.declared.Map.{Map}
 use Rattle.tracks.specs.Tracks.{span_at, spans, track, AreTracks}
 use Rattle.tracks.specs.Laws.{track_below, track_two}
-use Rattle.edges.specs.Marks.{box_at, Marked}
+use Rattle.edges.specs.Marks.{box_at, boxes, Marked}
 use Rattle.distances.specs.Ways as ways
 use Rattle.walks.specs.Axes.{place, side, EdgeAt}
 use Rattle.walks.specs.Tracks as lines
@@ -25,7 +28,7 @@ use Rattle.router.specs.Lines.{all_tracked, all_marked}
 use Rattle.index.specs.declared.Edges.{Edges}
 use Rattle.index.specs.declared.Index.{Index}
 use Rattle.crowding.specs.Crowding.{OpenWay, Lane, Lanes, BuiltOn}
-use Rattle.crowding.specs.Filling.{cell_of, is_clear, bits_of, Filled}
+use Rattle.crowding.specs.Filling.{cell_of, is_clear, bits_of, Filled, OnTracks}
 use Rattle.crowding.specs.Laws.Marking.{listed_at}
 
 -- ---- the first unit edge of a slab, and all of them
@@ -148,6 +151,22 @@ module _ (w h : ℕ) (x0 y0 x1 y1 c : List ℕ) (n : ℕ) (x y : Tracks) (tx : A
       rest = pl.rest;
     };
   }
+
+-- ---- by the marks of a map
+
+same_boxes : (b : Blocks) (n : ℕ) → listed (boxes b) 0 n ≡ listed (block_at b) 0 n
+unfolding box_at block_at
+same_boxes b n = refl
+
+pub built_map : (s : Size) (b : Blocks) (m : Map) (es fs : List Edges) → OnTracks s b m.x m.y
+    → Marked level m.flat m.x.at m.x.count m.y.at m.y.count (boxes b) (first_at b b.items)
+    → Marked upright m.tall m.x.at m.x.count m.y.at m.y.count (boxes b) (first_at b b.items)
+    → Filled true m.tall m.x.count (m.y.count - 1) es → Filled false m.flat m.y.count (m.x.count - 1) fs
+    → BuiltOn (grid_with s.w s.h (joined (flat b))) (flat b) (record { x = m.x; y = m.y; upright = es; level = fs })
+built_map s b m es fs t p q u l =
+    let n = first_at b b.items in
+    rw (same_boxes b n)
+    at (built s.w s.h b.x0 b.y0 b.x1 b.y1 b.c n m.x m.y t.on_x t.on_y t.wide t.high m.flat m.tall p q es fs u l)
 
 -- ---- the same index over a grid with the same open edges
 

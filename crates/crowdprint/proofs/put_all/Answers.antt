@@ -1,16 +1,11 @@
 -- `crowdprint::put_all` meets its contract: the lines of the sheet, and the last line after them.
 use native.Mathlib.Omega.{arith}
-use borrow.Author.Rules.{Fits-under}
-use Rattle.crowdprint.specs.Laws.{leaves_few, crowds_few, writes_after}
+use Rattle.crowdprint.specs.Laws.{crowds_few, writes_after}
 use Rattle.crowdprint.proofs.put_all.Goals as goal
 
 pub put_sheet-next-requires : goal.put_sheet-next-requires
 put_sheet-next-requires c =
-    (crowds_few _ _ _ c.crowd_sheet-sheet.ensures, omega (arith, c.requires))
-
-pub overflow_mul-left : goal.overflow_mul-left
-overflow_mul-left c =
-    Fits-under _ _ 786421 (omega (arith, leaves_few c.feed_all-left.ensures.0)) tt
+    (crowds_few _ _ _ c.crowd_sheet.ensures, omega (arith, c.requires))
 
 pub returns : goal.returns
 returns c =
@@ -23,8 +18,8 @@ returns c =
         over = c.feed_all-left.ensures.1;
         index = c.feed_all-left.result.index;
         agrees = c.feed_all-left.ensures.2;
-        sheet = c.crowd_sheet-sheet.result;
-        crowds = c.crowd_sheet-sheet.ensures;
+        sheet = c.crowd_sheet.result;
+        crowds = c.crowd_sheet.ensures;
         printed = e.spelled;
       },
       e.put,

@@ -11,28 +11,28 @@ next : {n : ℕ} {b b' : List ℕ} {at r : ℕ} → Writes (byte space ∷ numbe
     → Reaches 11 (byte space ∷ number n ∷ []) b at b' r
 next p = reaches p.0 p.1
 
-pub put_next-first-requires : goal.put_next-first-requires
-put_next-first-requires c =
+pub put_next-stands-requires : goal.put_next-stands-requires
+put_next-stands-requires c =
     let e = byte_reach c.put_byte-named.ensures in
     omega (arith, e.near, e.same_length, c.requires.1)
 
-pub put_next-second-requires : goal.put_next-second-requires
-put_next-second-requires c =
-    let e = byte_reach c.put_byte-named.ensures then next c.put_next-first.ensures in
+pub put_next-free-requires : goal.put_next-free-requires
+put_next-free-requires c =
+    let e = byte_reach c.put_byte-named.ensures then next c.put_next-stands.ensures in
     omega (arith, e.near, e.same_length, c.requires.1)
 
-pub put_next-third-requires : goal.put_next-third-requires
-put_next-third-requires c =
-    let e = byte_reach c.put_byte-named.ensures then next c.put_next-first.ensures then next c.put_next-second.ensures in
+pub put_next-stretch-requires : goal.put_next-stretch-requires
+put_next-stretch-requires c =
+    let e = byte_reach c.put_byte-named.ensures then next c.put_next-stands.ensures then next c.put_next-free.ensures in
     omega (arith, e.near, e.same_length, c.requires.1)
 
 pub put_byte-requires : goal.put_byte-requires
 put_byte-requires c =
-    let e = byte_reach c.put_byte-named.ensures then next c.put_next-first.ensures then next c.put_next-second.ensures then next c.put_next-third.ensures in
+    let e = byte_reach c.put_byte-named.ensures then next c.put_next-stands.ensures then next c.put_next-free.ensures then next c.put_next-stretch.ensures in
     omega (arith, e.near, e.same_length, c.requires.1)
 
 pub returns : goal.returns
 returns c =
-    let e = byte_reach c.put_byte-named.ensures then next c.put_next-first.ensures then next c.put_next-second.ensures then next c.put_next-third.ensures
+    let e = byte_reach c.put_byte-named.ensures then next c.put_next-stands.ensures then next c.put_next-free.ensures then next c.put_next-stretch.ensures
     then byte_reach c.put_byte.ensures in
-    (e.writes, omega (arith, e.near))
+    (rw (← c.from.ensures, ← c.from-2.ensures, ← c.from-3.ensures) e.writes, omega (arith, e.near))

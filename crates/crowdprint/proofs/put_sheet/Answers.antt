@@ -13,7 +13,7 @@ pub returns-then-sheet-ne0 : goal.returns-then-sheet-ne0
 returns-then-sheet-ne0 c =
     let g = c.args.sheet in
     let e = ten_digits c.put_number-coded.ensures (omega arith) then byte_reach c.put_byte.ensures in
-    (rw (← shown_code g g.code c.if-sheet-ne0.true) e.writes, omega (arith, e.near))
+    (rw (← shown_code g g.code c.if-sheet-ne0.true, ← c.from.ensures) e.writes, omega (arith, e.near))
 
 pub returns : goal.returns
 returns c =

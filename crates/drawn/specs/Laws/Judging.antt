@@ -1,22 +1,23 @@
 -- From the parts to what is said of the drawn wire.
 -- Assumes nothing.
-use Rattle.std.specs.Prelude.{ℕ, zero, suc, ◌+◌, ◌≤◌, ◌≡◌, ◌↔◌, List, [], ◌∷◌, length}
+use Rattle.std.specs.Prelude.{ℕ, zero, suc, ◌+◌, ◌≤◌, ◌≡◌, ◌↔◌, Result, Ok, Err, List, [], ◌∷◌, length}
 use Rattle.std.proofs.Common.{arith, zero-add, sym, ◌∙◌}
 use Rattle.std.proofs.Math.Path.{refl, ap, subst}
 use Rattle.std.proofs.Math.Logic.{inl, inr}
 use Rattle.paper.specs.declared.Item.{Item}
 use Rattle.paper.specs.declared.Pins.{Pins}
 use Rattle.paper.specs.declared.Board.{Board}
+use Rattle.paper.specs.declared.Refusal.TheVariants.{NoBounds, CornerCount, IllFormed}
 use Rattle.paper.specs.declared.Judged.{Judged}
 use Rattle.paper.specs.Limits.{most_corners, most_runs}
 use Rattle.paper.specs.Grid.{Node, Dir, All, Blocked, node, grid_with}
 use Rattle.paper.specs.Wire.{Legal, runs}
 use Rattle.paper.specs.Layout.{wire, wires, blocks_to, grid_of, OnBoard, last_of, EndsDiffer, Layout, Laid}
 use Rattle.paper.specs.Padding.{item_of, WellFormed}
-use Rattle.paper.specs.Answer.{Gives, source, target, BeforeBounds}
+use Rattle.paper.specs.Answer.{plain, Gives, source, target, BeforeBounds}
 use Rattle.paper.specs.Drawn.{drawn, CountFits, shape_checks, run_checks, corner_checks, long_of, Exceeds, JudgedOn, Judges}
 use Rattle.paper.specs.Laws.Back.{layout_of, well_formed}
-use Rattle.paper.specs.Laws.Checks.{Clear, clear_of, of_clear, clear_split}
+use Rattle.paper.specs.Laws.Checks.{Clear, clear_of, clear_split}
 use Rattle.paper.specs.Laws.Walked.{clear_ends}
 use Rattle.paper.specs.Laws.Drawn.{length_drawn, corner_coded, shut}
 use Rattle.paper.proofs.Drawn.{turns_of, runs_clear, found}
@@ -31,33 +32,36 @@ use Rattle.shapes.specs.Corners.{corners_of}
 use Rattle.shapes.specs.Laws.Corners.{corners_one, last_listed}
 use Rattle.router.specs.Route.{Asked}
 use Rattle.shapes.specs.declared.Fault.{Fault}
-use Rattle.shapes.specs.Faults.{fault_of}
+use Rattle.shapes.specs.Faults.{fault_of, about_none}
+use Rattle.shapes.specs.Laws.Fits.{coded}
 use Rattle.drawn.specs.Laws.Numbers.{corners_back, item_long}
 use Rattle.places.specs.Placing.{AllSay}
-use Rattle.drawn.specs.Drawing.{refused_by, Reached, Over, pins_of}
+use Rattle.drawn.specs.Drawing.{judged_of, long_by, Reached, Over, pins_of}
+use Rattle.drawn.specs.Laws.Long.{runs_long}
 
 -- ---- refused
 
 module _ (l : Layout) (ns : List ℕ) where
-  pub before_bounds : BeforeBounds l → (r : Judged) → r ≡ refused_by (record { code = 2; run = 0 }) → JudgedOn l ns r
+  pub before_bounds : BeforeBounds l → (f : Fault) → f ≡ about_none NoBounds → JudgedOn l ns (judged_of (Err f))
   unfolding Gives
-  before_bounds z r e = rw e (record { said = inl (z, refl); refused = λ n. refl; accepted = λ x. absurd (omega arith) })
+  before_bounds z f e = rw e (record { said = inl (z, refl); refused = λ n. refl; accepted = λ x. absurd (omega arith) })
 
-  pub ill_counted : ¬ (BeforeBounds l) → ¬ (CountFits ns) → (r : Judged) → r ≡ refused_by (record { code = 22; run = 0 }) → JudgedOn l ns r
-  unfolding Gives
-  ill_counted b c r e = rw e (record { said = inr (b, inl (c, refl)); refused = λ n. refl; accepted = λ x. absurd (omega arith) })
-
-  module _ (b : ¬ (BeforeBounds l)) (c : CountFits ns) (f : Fault) (g : Gives (corner_checks l (drawn ns)) (fault_of f)) where
-    pub faulty : ¬ (f.code ≡ 0) → (r : Judged) → r ≡ refused_by f → JudgedOn l ns r
+  module _ (b : ¬ (BeforeBounds l)) where
+    pub ill_counted : ¬ (CountFits ns) → (f : Fault) → f ≡ about_none CornerCount → JudgedOn l ns (judged_of (Err f))
     unfolding Gives
-    faulty n r e = rw e (record { said = inr (b, inr (c, g)); refused = λ n. refl; accepted = λ x. absurd (n x) })
+    ill_counted c f e = rw e (record { said = inr (b, inl (c, refl)); refused = λ n. refl; accepted = λ x. absurd (omega arith) })
 
-    pub faultless : f.code ≡ 0 → Clear (corner_checks l (drawn ns))
-    faultless z = clear_of (corner_checks l (drawn ns)) (fault_of f) z (corner_coded l (drawn ns)) g
+    module _ (c : CountFits ns) where
+      pub faulty : (f : Fault) → Gives (corner_checks l (drawn ns)) (fault_of (Err f)) → (r : Result ℕ Fault) → r ≡ Err f → JudgedOn l ns (judged_of r)
+      unfolding Gives
+      faulty f g r e = rw e (record { said = inr (b, inr (c, g)); refused = λ n. refl; accepted = λ x. absurd (omega (arith, x, coded f.why)) })
 
-    pub accepted : f.code ≡ 0 → (x : ℕ) → Exceeds (grid_of l.size l.items) (drawn ns) x → JudgedOn l ns (record { code = 0; run = 0; excess = x })
-    unfolding Gives
-    accepted z x h = record { said = inr (b, inr (c, of_clear (corner_checks l (drawn ns)) (faultless z))); refused = λ n. absurd (n refl); accepted = λ e. h }
+      pub accepted : Gives (corner_checks l (drawn ns)) (plain 0) → (x : ℕ) → Exceeds (grid_of l.size l.items) (drawn ns) x → JudgedOn l ns (judged_of (Ok x))
+      unfolding Gives
+      accepted g x h = record { said = inr (b, inr (c, g)); refused = λ n. absurd (n refl); accepted = λ e. h }
+
+  pub faultless : Gives (corner_checks l (drawn ns)) (plain 0) → Clear (corner_checks l (drawn ns))
+  faultless g = clear_of (corner_checks l (drawn ns)) (plain 0) refl (corner_coded l (drawn ns)) g
 
 -- ---- accepted
 
@@ -137,14 +141,17 @@ corners_drawn ns m n e h = ap (λ m. corners_of m (n + 1)) e ∙ corners_back (d
 
 module _ (b : Blocks) (l : Layout) (ns : List ℕ) (m : Item) (n : ℕ) (made : m ≡ item_of (wire 0 (drawn ns))) (count : length ns ≡ (n + 1) + (n + 1))
     (some : 1 ≤ n) (few : n ≤ most_runs) (held : HeldOf b wires l) (L : Laid l) where
-  pub drawn_says : (f : Fault) → AllSay l.size b m n f → Gives (corner_checks l (drawn ns)) (fault_of f)
+  pub drawn_says : (f : Result (Unit {0}) Fault) → AllSay l.size b m n f → Gives (corner_checks l (drawn ns)) (fault_of f)
   unfolding AllSay
   drawn_says f a = subst (λ ps. Gives (corner_checks l ps) (fault_of f)) (corners_drawn ns m n made count) (a l refl held L.fits.two.each)
 
   long : (length m.xs ≡ most_corners) × (length m.ys ≡ most_corners)
   long = item_long (drawn ns) m made (omega (arith, length_drawn ns (n + 1) count))
 
-  module _ (p : Pins) (at_ends : p ≡ pins_of m n) (k : ℕ) (as_long : k ≡ long_of (corners_of m (n + 1))) where
+  module _ (p : Pins) (at_ends : p ≡ pins_of m n) (k : ℕ) (summed : k ≡ long_by m n) where
+    as_long : k ≡ long_of (corners_of m (n + 1))
+    as_long = summed ∙ runs_long m n long.0 long.1 few
+
     pub drawn_asks : Clear (corner_checks l (drawn ns)) → Fits b × Asked l.size (flat b) p × Reached (grid_with l.size.w l.size.h (joined (flat b))) (source p) (target p) k
     drawn_asks c =
         let w = walked_item l L m n long.0 long.1 some few (subst (λ ps. Clear (corner_checks l ps)) (sym (corners_drawn ns m n made count)) c) in
@@ -157,7 +164,7 @@ module _ (b : Blocks) (l : Layout) (ns : List ℕ) (m : Item) (n : ℕ) (made : 
 
 -- ---- the whole
 
-pub judged_ill : (b : Board) (ns : List ℕ) → ¬ (WellFormed b) → (r : Judged) → r ≡ refused_by (record { code = 17; run = 0 }) → Judges b ns r
+pub judged_ill : (b : Board) (ns : List ℕ) → ¬ (WellFormed b) → (r : Judged) → r ≡ judged_of (Err (about_none IllFormed)) → Judges b ns r
 unfolding Judges
 judged_ill b ns n r e = inl (n, e)
 

@@ -1,20 +1,12 @@
--- `edges::below` meets its contract: every track passed lies below v.
-use native.Mathlib.Omega.{arith}
-use borrow.Author.Count.{below_more}
+-- `edges::below` meets its contract: the tracks rise, so the search by halves finds the first that is not below v.
+use Rattle.std.proofs.Common.{rules, arith, ◌≤◌, length, ltb}
+use Rattle.std.proofs.lemmas.List.Sorted.{IsPartitionPoint-from_clause}
+use Rattle.edges.specs.Laws.{parted, below_point}
 use Rattle.edges.proofs.below.Goals as goal
 
-pub loop-i-init : goal.loop-i-init
-loop-i-init c = (omega arith, omega arith, λ k h p. absurd (omega arith))
-
-pub returns-then-wide-v : goal.returns-then-wide-v
-returns-then-wide-v c =
-    let l = c.loop-i in
-    record { past = l.invariant.0; few = l.invariant.1; under = l.invariant.2; here = λ h. omega (arith, c.wide.ensures) }
-
-pub loop-i-preserved : goal.loop-i-preserved
-loop-i-preserved c =
-    let l = c.loop-i in
-    (omega arith, omega arith, below_more _ _ l.invariant.2 (λ p. omega (arith, c.wide.ensures)))
-
 pub returns : goal.returns
-returns c = let l = c.loop-i in record { past = l.invariant.0; few = l.invariant.1; under = l.invariant.2; here = λ h. absurd (omega arith) }
+returns c =
+    let a = c.args in
+    let long : a.count ≤ length a.at.now = omega arith in
+    below_point a.at.now a.count a.v _ long c.partition_point.ensures.bound
+    (IsPartitionPoint-from_clause (λ u. ltb u a.v) _ _ c.partition_point.ensures.partitioned (parted a.at.now a.count a.v long c.requires.1) (λ b r q k. search rules))

@@ -2,7 +2,7 @@
 -- Assumes nothing.
 use Prim.Native.Nat.{ℕ, suc, ◌+◌, ◌≤◌, ◌<◌}
 use Rattle.std.proofs.Common.{arith, sym, ◌∙◌}
-use Rattle.std.specs.Prelude.{◌≡◌}
+use Rattle.std.specs.Prelude.{◌≡◌, Some}
 use Rattle.std.proofs.Math.Path.{refl, ap, subst}
 use Rattle.std.proofs.Math.Logic.{inl, inr}
 use mathlib.Core.List.{List, [], ◌∷◌}
@@ -16,6 +16,8 @@ use Rattle.paper.specs.declared.Reply.{Reply}
 use Rattle.paper.specs.declared.Verdict.{Verdict}
 use Rattle.paper.specs.declared.Record.{Record}
 use Rattle.paper.specs.declared.Record.TheVariants.{Bounds, KeepOut, TakeOut, Undo, Malformed}
+use Rattle.paper.specs.declared.Refusal.{Refusal}
+use Rattle.paper.specs.Codes.{code_of}
 use Rattle.paper.specs.Limits.{most_blocks}
 use Rattle.paper.specs.Layout.{keep_out, areas, block_count, Used, Turn, undo, Layout, InRange, empty, Laid, Undoes}
 use Rattle.paper.specs.Padding.{item_of, board_of, WellFormed}
@@ -28,7 +30,7 @@ use Rattle.paper.specs.Laws.Checks.{Spared}
 use Rattle.paper.specs.Laws.Next.{spares, laid}
 use Rattle.paper.specs.Laws.Shape.{items_few}
 use Rattle.paper.specs.Laws.Standing.{Standing, thing_at, well_standing}
-use Rattle.items.specs.declared.Found.TheVariants.{At}
+use Rattle.shapes.specs.Laws.Fits.{coded}
 use Rattle.items.specs.Items.{IdAt, TheFirst, Whole, Room, RoomBack, Undone}
 use Rattle.items.specs.Laws.Found.{has_at, used_at}
 use Rattle.feed.specs.Feeding.{Quietly, KeepOutCode}
@@ -94,6 +96,9 @@ module _ (b : Board) (w : WellFormed b) where
   unfolding KeepOutCode
   keep_out_not i r k n g = quiet_refused b w (KeepOut i r) k (omega arith) g
 
+  pub keep_out_refused : (i : Id) (r : Rect) (why : Refusal) → KeepOutCode (layout_of b) i r (code_of why) → Quietly (layout_of b) (KeepOut i r) (refusing (plain (code_of why)) b)
+  keep_out_refused i r why g = keep_out_not i r (code_of why) (λ e. let h : 1 ≤ code_of why = coded why in absurd (omega arith)) g
+
   pub keep_out_set : (i : Id) (r : Rect) → KeepOutCode (layout_of b) i r 0
       → Quietly (layout_of b) (KeepOut i r) (refusing (plain 0) (board_of (add_to (layout_of b) (keep_out i.number r))))
   unfolding KeepOutCode Does
@@ -116,11 +121,11 @@ module _ (b : Board) (w : WellFormed b) where
 
   -- ---- kind 5
 
-  pub take_first : (i at : ℕ) → IdAt (layout_of b).items i (At at) → TheFirst (layout_of b).items at
+  pub take_first : (i at : ℕ) → IdAt (layout_of b).items i (Some at) → TheFirst (layout_of b).items at
   unfolding IdAt
   take_first i at p = (p.0, refl, λ j h e. p.2 j h (e ∙ p.1))
 
-  pub take_set : (i : Id) (at : ℕ) → ¬ (BeforeBounds (layout_of b)) → IdAt (layout_of b).items i.number (At at)
+  pub take_set : (i : Id) (at : ℕ) → ¬ (BeforeBounds (layout_of b)) → IdAt (layout_of b).items i.number (Some at)
       → Quietly (layout_of b) (TakeOut i) (refusing (plain 0) (board_of (take_from (layout_of b) (thing_at (layout_of b).items at))))
   unfolding IdAt Gives checks Does
   take_set i at n p =

@@ -2,7 +2,7 @@
 -- Assumes nothing.
 use Prim.Native.Nat.{ℕ, zero, suc, ◌-◌, ◌≤◌, ◌<◌}
 use native.Mathlib.Omega.{arith}
-use Rattle.std.specs.Prelude.{◌≡◌, refl, Bool, true, false, ◌⊎◌}
+use Rattle.std.specs.Prelude.{◌≡◌, refl, Bool, true, false, Option, Some, None, Result, Ok, Err}
 use Rattle.std.proofs.Common.{sym, subst, ◌∙◌}
 use Rattle.std.proofs.Math.Path.{ap}
 use Rattle.std.proofs.Math.Logic.{inl, inr, ⊎_elim}
@@ -13,6 +13,9 @@ use Rattle.paper.specs.declared.Size.{Size}
 use Rattle.paper.specs.declared.Verdict.{Verdict}
 use Rattle.paper.specs.declared.Mode.{Mode}
 use Rattle.paper.specs.declared.Question.{Question}
+use Rattle.paper.specs.declared.Refusal.{Refusal}
+use Rattle.paper.specs.declared.Refusal.TheVariants.{OffBoard, OneNode}
+use Rattle.paper.specs.Codes.{code_of}
 use Rattle.paper.specs.Limits.{most_corners}
 use Rattle.paper.specs.Grid.{Node, Dir, Grid, Any, Pairs, Blocked, node, step, rank, grid_with}
 use Rattle.paper.specs.Wire.{Legal, AnsweredIn, corners, turns, runs}
@@ -30,20 +33,21 @@ use Rattle.paper.specs.Laws.Least.{in_legal}
 use Rattle.paper.proofs.Covering.{inside_barred}
 use Rattle.paper.specs.Laws.Joins.{joined}
 use Rattle.blocks.specs.declared.Blocks.{Blocks}
-use Rattle.blocks.specs.declared.Found.{Found}
-use Rattle.blocks.specs.declared.Found.TheVariants.{At, Nothing}
 use Rattle.blocks.specs.Flat.{flat, Fits, HeldOf}
 use Rattle.blocks.specs.Laws.Held.{held_fits, flat_held}
 use Rattle.blocks.specs.Laws.Found.{FirstOf, FoundAmong, scan_sort}
 use Rattle.seams.specs.Laws.Sunk.{round_found}
-use Rattle.router.specs.declared.Route.{Route}
-use Rattle.router.specs.declared.Route.TheVariants.{Wire, NoWire as NoRoute, TooManyRuns as ManyRuns}
-use Rattle.router.specs.declared.Routed.{Routed}
-use Rattle.router.specs.Route.{Found as Told, Written, AnswersIn, Asked}
+use Rattle.shapes.specs.Laws.Fits.{coded}
+use Rattle.router.specs.declared.Wire.{Wire as RouterWire}
+use Rattle.router.specs.declared.Untold.{Untold}
+use Rattle.router.specs.declared.Untold.TheVariants.{NoWire as NoRoute, TooManyRuns as ManyRuns}
+use Rattle.router.specs.Route.{Found, Written, Routes, AnswersIn, Asked}
 use Rattle.router.specs.One.{routes_of}
 use Rattle.router.specs.Cells.{answers_cells}
+use Rattle.feed.specs.declared.Blame.{Blame}
 use Rattle.feed.specs.declared.wires.Stop.{Stop}
-use Rattle.feed.specs.Feeding.{no_stop, FirstAt, StopsPin, one_checks, start_checks, PinsSaid, StopsPins, no_wire, wired_by, wired_of, Spelled, Wires}
+use Rattle.feed.specs.declared.wires.Stop.TheVariants.{Alone, AtPin}
+use Rattle.feed.specs.Feeding.{said_of, untold_of, FirstAt, StopsPin, one_checks, start_checks, StopsPins, Spelled, Told, Wires}
 
 -- ---- the smallest id
 
@@ -69,53 +73,48 @@ module _ (P : Thing → Type 0) where
 
 -- what stops a pin, in the words of its checks
 module _ (b : Blocks) (l : Layout) (held : HeldOf b wires l) (rising : Pairs Below l.items) (p : Node) where
-  among : (of : Sort) (f : Found) → FirstAt b of p.x p.y f → FoundAmong (BarsNode l of p) l.items f
+  among : (of : Sort) (f : Option ℕ) → FirstAt b of p.x p.y f → FoundAmong (BarsNode l of p) l.items f
   unfolding FirstAt BarsNode
   among keep_outs f h = round_found held p.x p.y f h
   among wires f h = scan_sort l wires held _ wires f h
 
-  none : (of : Sort) → FirstAt b of p.x p.y Nothing → (j : ℕ) → ¬ (Blocking l of p j)
+  none : (of : Sort) → FirstAt b of p.x p.y None → (j : ℕ) → ¬ (Blocking l of p j)
   unfolding FoundAmong
-  none of h = none_named (BarsNode l of p) l.items (among of Nothing h)
+  none of h = none_named (BarsNode l of p) l.items (among of None h)
 
-  first : (of : Sort) (i : ℕ) → FirstAt b of p.x p.y (At i)
+  first : (of : Sort) (i : ℕ) → FirstAt b of p.x p.y (Some i)
       → (i < length l.items) × Blocking l of p (id_of (thing_at l.items i)) × ((k : ℕ) → Blocking l of p k → id_of (thing_at l.items i) ≤ k)
   unfolding FoundAmong
-  first of i h = first_named (BarsNode l of p) l.items i rising (among of (At i) h)
+  first of i h = first_named (BarsNode l of p) l.items i rising (among of (Some i) h)
 
   -- an item stops it, or nothing does
-  stopped : (pin : ℕ) (r : Stop) → StopsPin b p.x p.y pin r
-      → ((r.pin ≡ pin) × (¬ (r.code ≡ 0)) × (r.item < length l.items) × Gives (one_checks l pin p) (named r.code pin (id_of (thing_at l.items r.item))))
-      ⊎ ((r ≡ no_stop 0) × Clear (one_checks l pin p))
-  unfolding StopsPin Gives Clear
-  stopped pin r (inl h) =
-      let f = first keep_outs r.item h.1 in
-      let c : r.code ≡ 11 = ap (λ r. r.code) h.0 in
-      inl (ap (λ r. r.pin) h.0, λ z. omega arith, f.0, inl (id_of (thing_at l.items r.item), f.1, f.2, ap (λ c. named c pin (id_of (thing_at l.items r.item))) c))
-  stopped pin r (inr (inl h)) =
-      let f = first wires r.item h.2 in
-      let c : r.code ≡ 18 = ap (λ r. r.code) h.0 in
-      inl (
-        ap (λ r. r.pin) h.0,
-        λ z. omega arith,
-        f.0,
-        inr (none keep_outs h.1, inl (id_of (thing_at l.items r.item), f.1, f.2, ap (λ c. named c pin (id_of (thing_at l.items r.item))) c)),
-      )
-  stopped pin r (inr (inr h)) = inr (h.0, (none keep_outs h.1, (none wires h.2, tt)))
+  barred : (pin : ℕ) (why : Refusal) (at i : ℕ) → StopsPin b p.x p.y pin (Err (AtPin why at i))
+      → (at ≡ pin) × (i < length l.items) × Gives (one_checks l pin p) (named (code_of why) pin (id_of (thing_at l.items i)))
+  unfolding StopsPin Gives
+  barred pin why at i (e, inl h) =
+      let f = first keep_outs i h.1 in
+      (e, f.0, inl (id_of (thing_at l.items i), f.1, f.2, ap (λ c. named (code_of c) pin (id_of (thing_at l.items i))) h.0))
+  barred pin why at i (e, inr h) =
+      let f = first wires i h.2 in
+      (e, f.0, inr (none keep_outs h.1, inl (id_of (thing_at l.items i), f.1, f.2, ap (λ c. named (code_of c) pin (id_of (thing_at l.items i))) h.0)))
+
+  free : (pin : ℕ) → StopsPin b p.x p.y pin (Ok tt) → Clear (one_checks l pin p)
+  unfolding StopsPin Clear
+  free pin h = (none keep_outs h.0, (none wires h.1, tt))
 
 -- what stops two pins
 module _ (s : Size) (b : Blocks) (p : Pins) where
   sized : (l : Layout) → l.size ≡ s → OnBoard s (source p) × OnBoard s (target p) → OnBoard l.size (source p) × OnBoard l.size (target p)
   sized l e o = subst (λ s. OnBoard s (source p) × OnBoard s (target p)) (sym e) o
 
-  pub stop_off : ¬ (OnBoard s (source p) × OnBoard s (target p)) → (r : Stop) → r ≡ no_stop 9 → StopsPins s b p r
+  pub stop_off : ¬ (OnBoard s (source p) × OnBoard s (target p)) → StopsPins s b p (Err (Alone OffBoard))
   unfolding StopsPins Gives
-  stop_off n r e l z held rising = rw e (inr (refl, inl (λ o. n (subst (λ s. OnBoard s (source p) × OnBoard s (target p)) z o), refl)))
+  stop_off n l z held rising = inl (λ o. n (subst (λ s. OnBoard s (source p) × OnBoard s (target p)) z o), refl)
 
   module _ (on : OnBoard s (source p) × OnBoard s (target p)) where
-    pub stop_one : source p ≡ target p → (r : Stop) → r ≡ no_stop 10 → StopsPins s b p r
+    pub stop_one : source p ≡ target p → StopsPins s b p (Err (Alone OneNode))
     unfolding StopsPins Gives
-    stop_one q r e l z held rising = rw e (inr (refl, inr (sized l z on, inl (q, refl))))
+    stop_one q l z held rising = inr (sized l z on, inl (q, refl))
 
     module _ (two : ¬ (source p ≡ target p)) where
       -- after the first two checks
@@ -123,50 +122,31 @@ module _ (s : Size) (b : Blocks) (p : Pins) where
       unfolding Gives
       on_two l z v g = inr (sized l z on, inr (two, g))
 
-      pub stop_first : (r : Stop) → StopsPin b p.sx p.sy 1 r → ¬ (r.code ≡ 0) → StopsPins s b p r
-      unfolding StopsPins
-      stop_first r h n l z held rising =
-          ⊎_elim
-          (λ k. inl (
-            λ e. omega (arith, e, k.0),
-            n,
-            k.2,
-            on_two l z _ (subst (λ i. Gives (one_checks l 1 (source p) ++ one_checks l 2 (target p)) (named r.code i (id_of (thing_at l.items r.item)))) (sym k.0)
-                (gives_first (one_checks l 1 (source p)) (one_checks l 2 (target p)) _ n k.3)),
-          ))
-          (λ k. absurd (n (ap (λ r. r.code) k.0)))
-          (stopped b l held rising (source p) 1 r h)
+      by_first : (f : Stop) → StopsPin b p.sx p.sy 1 (Err f) → StopsPins s b p (Err f)
+      unfolding StopsPins StopsPin
+      by_first (Alone why) h l z held rising = absurd h
+      by_first (AtPin why at i) h l z held rising =
+          let k = barred b l held rising (source p) 1 why at i h in (
+            k.1,
+            on_two l z _ (subst (λ j. Gives (one_checks l 1 (source p) ++ one_checks l 2 (target p)) (named (code_of why) j (id_of (thing_at l.items i)))) (sym k.0)
+                (gives_first (one_checks l 1 (source p)) (one_checks l 2 (target p)) _ (λ c. omega (arith, c, coded why)) k.2)),
+          )
 
-      pub stop_second : (q : Stop) → StopsPin b p.sx p.sy 1 q → q.code ≡ 0 → (r : Stop) → StopsPin b p.tx p.ty 2 r → StopsPins s b p r
-      unfolding StopsPins
-      stop_second q g c r h l z held rising = ⊎_elim (λ k. absurd (k.1 c)) (λ k. after k.1) (stopped b l held rising (source p) 1 q g)
-        where
-          after : Clear (one_checks l 1 (source p)) → PinsSaid l p r
-          after free =
-              ⊎_elim
-              (λ k. inl (
-                λ e. omega (arith, e, k.0),
-                k.1,
-                k.2,
-                on_two l z _ (subst (λ i. Gives (one_checks l 1 (source p) ++ one_checks l 2 (target p)) (named r.code i (id_of (thing_at l.items r.item)))) (sym k.0)
-                    (gives_then (one_checks l 1 (source p)) (one_checks l 2 (target p)) _ free k.3)),
-              ))
-              (λ k. inr (
-                ap (λ r. r.pin) k.0,
-                on_two l z _ (subst (λ c. Gives (one_checks l 1 (source p) ++ one_checks l 2 (target p)) (plain c)) (sym (ap (λ r. r.code) k.0))
-                    (of_clear _ (clear_join (one_checks l 1 (source p)) (one_checks l 2 (target p)) free k.1))),
-              ))
-              (stopped b l held rising (target p) 2 r h)
+      pub stop_first : (f : Stop) → StopsPin b p.sx p.sy 1 (Err f) → (r : Result (Unit {0}) Stop) → r ≡ Err f → StopsPins s b p r
+      stop_first f h r e = subst (StopsPins s b p) (sym e) (by_first f h)
 
--- the item's id, or none
-pub said_item : (l : Layout) (p : Pins) (r : Stop) → PinsSaid l p r → ¬ (r.pin ≡ 0)
-    → (¬ (r.code ≡ 0)) × (r.item < length l.items) × Gives (start_checks l p) (named r.code r.pin (id_of (thing_at l.items r.item)))
-said_item l p r (inl h) n = (h.1, h.2, h.3)
-said_item l p r (inr h) n = absurd (n h.0)
-
-pub said_plain : (l : Layout) (p : Pins) (r : Stop) → PinsSaid l p r → r.pin ≡ 0 → Gives (start_checks l p) (plain r.code)
-said_plain l p r (inl h) z = absurd (h.0 z)
-said_plain l p r (inr h) z = h.1
+      pub stop_second : StopsPin b p.sx p.sy 1 (Ok tt) → (r : Result (Unit {0}) Stop) → StopsPin b p.tx p.ty 2 r → StopsPins s b p r
+      unfolding StopsPins StopsPin
+      stop_second g (Ok u) h l z held rising =
+          on_two l z (plain 0)
+          (of_clear _ (clear_join (one_checks l 1 (source p)) (one_checks l 2 (target p)) (free b l held rising (source p) 1 g) (free b l held rising (target p) 2 h)))
+      stop_second g (Err (Alone why)) h l z held rising = absurd h
+      stop_second g (Err (AtPin why at i)) h l z held rising =
+          let k = barred b l held rising (target p) 2 why at i h in (
+            k.1,
+            on_two l z _ (subst (λ j. Gives (one_checks l 1 (source p) ++ one_checks l 2 (target p)) (named (code_of why) j (id_of (thing_at l.items i)))) (sym k.0)
+                (gives_then (one_checks l 1 (source p)) (one_checks l 2 (target p)) _ (free b l held rising (source p) 1 g) k.2)),
+          )
 
 -- ---- before a wire is looked for
 
@@ -202,8 +182,9 @@ wire_asks b l p held range g =
 
 -- ---- what the router's answer says
 
-pub refused_start : (l : Layout) (q : Question) (v : Verdict) → ¬ (v.code ≡ 0) → Gives (start_checks l q.pins) v → Wires l q (no_wire v)
-refused_start l q v n g = record { said = gives_first (start_checks l q.pins) _ v n g; blocks = λ z. absurd (n z); wire = λ z. absurd (n z) }
+pub refused_start : (l : Layout) (q : Question) (f : Blame) → Gives (start_checks l q.pins) (said_of f) → Wires l q (Err f)
+unfolding Wires
+refused_start l q f g = gives_first (start_checks l q.pins) _ (said_of f) (λ z. omega (arith, z, coded f.why)) g
 
 module _ (l : Layout) (q : Question) (g : Clear (start_checks l q.pins)) where
   abbrev p : Pins
@@ -219,46 +200,58 @@ module _ (l : Layout) (q : Question) (g : Clear (start_checks l q.pins)) where
   after k h = gives_then (start_checks l p) _ (plain k) g h
 
   -- the wire that is told is the one that is written
-  spelled : (n d k b : ℕ) (ps : List Node) (xs ys : List ℕ) → Told m G (source p) (target p) (Wire n d k)
-      → Written m G (source p) (target p) (Wire n d k) ps
-      → xs ≡ filled 0 most_corners (map (λ q. q.x) ps) → ys ≡ filled 0 most_corners (map (λ q. q.y) ps)
-      → TheWire l q (Spelled p (wired_by (Wire n d k) xs ys b))
-  unfolding Told Written
-  spelled n d k b ps xs ys f w x y =
-      let v = f.0 in
-      let a : AnsweredIn m G (source p) (target p) v = f.1.0 in
-      let e : ps ≡ way p v = w.2 ∙ ap (way p) (one_in m G (source p) (target p) w.0 v w.1 a) in
-      (v, a, record { length_is = f.2; detour_is = f.3; corners_are = f.4; xs_are = rw e at x; ys_are = rw e at y })
+  spelled : (u : RouterWire) (r : Routes m G (source p) (target p) (Ok u)) → TheWire l q (Spelled p u)
+  unfolding Found Written
+  spelled u r =
+      let v = r.found.0 in
+      let a : AnsweredIn m G (source p) (target p) v = r.found.1.0 in
+      let e : r.turned ≡ way p v = r.written.2 ∙ ap (way p) (one_in m G (source p) (target p) r.written.0 v r.written.1 a) in (
+        v,
+        a,
+        record {
+          length_is = r.found.2;
+          detour_is = r.found.3;
+          corners_are = r.found.4;
+          xs_are = r.xs_are ∙ ap (λ ps. filled 0 most_corners (map (λ q. q.x) ps)) e;
+          ys_are = r.ys_are ∙ ap (λ ps. filled 0 most_corners (map (λ q. q.y) ps)) e;
+        },
+      )
 
-  pub wires_by : (r : Route) (ps : List Node) (xs ys : List ℕ) (b : ℕ) → b ≡ block_count l.items
-      → Told m G (source p) (target p) r → Written m G (source p) (target p) r ps
-      → xs ≡ filled 0 most_corners (map (λ q. q.x) ps) → ys ≡ filled 0 most_corners (map (λ q. q.y) ps)
-      → Wires l q (wired_by r xs ys b)
-  unfolding Told Gives
-  wires_by (Wire n d k) ps xs ys b e f w x y =
+  told_by : (u : RouterWire) (n : ℕ) → Routes m G (source p) (target p) (Ok u) → n ≡ block_count l.items → Told l q (record { wire = u; blocks = n })
+  unfolding Found Gives
+  told_by u n r e =
+      let f = r.found in
       let few : ¬ (TheWire l q (TooManyRuns p))
       = λ t. omega (arith, f.1.1, t.2, ap (λ v. length (runs (way p v))) (one_in m G (source p) (target p) t.0 f.0 t.1 f.1.0)) in
       record {
         said = after 0 (inr (λ h. h f.0 (in_legal m G (source p) (target p) f.0 f.1.0), inr (few, refl)));
-        blocks = λ z. e;
-        wire = λ z. spelled n d k b ps xs ys f w x y;
+        blocks = e;
+        wire = spelled u r;
       }
-  wires_by NoRoute ps xs ys b e f w x y = record { said = after 12 (inl (f, refl)); blocks = λ z. absurd (omega arith); wire = λ z. absurd (omega arith) }
-  wires_by (ManyRuns n) ps xs ys b e f w x y = record {
-    said = after 13 (inr (λ h. h f.0 (in_legal m G (source p) (target p) f.0 f.1.0), inl ((f.0, f.1.0, f.1.1), refl)));
-    blocks = λ z. absurd (omega arith);
-    wire = λ z. absurd (omega arith);
-  }
 
-pub wires_told : (b : Blocks) (l : Layout) (q : Question) (r : Routed) (n : ℕ) → HeldOf b wires l → InRange l.size → Clear (start_checks l q.pins)
-    → AnswersIn q.mode (grid_with l.size.w l.size.h (joined (flat b))) (source q.pins) (target q.pins) r → n ≡ block_count l.items
-    → Wires l q (wired_of r n)
-wires_told b l q r n held range g a e =
-    let s : Node = source q.pins in
-    let t : Node = target q.pins in
-    let c : AnswersIn q.mode (grid_with l.size.w l.size.h (joined (blocks_to l.size.clearance wires l.items))) s t r = rw (flat_held held) at a in
-    let h = routes_of q.mode (grid_of l.size l.items) s t r.route r.xs r.ys (answers_cells q.mode l.size l.items s t r range.2.0 c) in
-    wires_by l q g r.route h.turned r.xs r.ys n e h.found h.written h.xs_are h.ys_are
+  untold_by : (u : Untold) → Routes m G (source p) (target p) (Err u) → Gives (pin_checks l q) (said_of (untold_of u))
+  unfolding Found Gives
+  untold_by NoRoute r = after 12 (inl (r.found, refl))
+  untold_by (ManyRuns n) r =
+      let f = r.found in after 13 (inr (λ h. h f.0 (in_legal m G (source p) (target p) f.0 f.1.0), inl ((f.0, f.1.0, f.1.1), refl)))
+
+module _ (b : Blocks) (l : Layout) (q : Question) (held : HeldOf b wires l) (range : InRange l.size) (g : Clear (start_checks l q.pins)) where
+  routes : (r : Result RouterWire Untold) → AnswersIn q.mode (grid_with l.size.w l.size.h (joined (flat b))) (source q.pins) (target q.pins) r
+      → Routes q.mode (grid_of l.size l.items) (source q.pins) (target q.pins) r
+  routes r a =
+      let s : Node = source q.pins in
+      let t : Node = target q.pins in
+      let c : AnswersIn q.mode (grid_with l.size.w l.size.h (joined (blocks_to l.size.clearance wires l.items))) s t r = rw (flat_held held) at a in
+      routes_of q.mode (grid_of l.size l.items) s t r (answers_cells q.mode l.size l.items s t r range.2.0 c)
+
+  pub wires_told : (u : RouterWire) (n : ℕ) → AnswersIn q.mode (grid_with l.size.w l.size.h (joined (flat b))) (source q.pins) (target q.pins) (Ok u)
+      → n ≡ block_count l.items → Wires l q (Ok (record { wire = u; blocks = n }))
+  unfolding Wires
+  wires_told u n a e = told_by l q g u n (routes (Ok u) a) e
+
+  pub wires_untold : (u : Untold) → AnswersIn q.mode (grid_with l.size.w l.size.h (joined (flat b))) (source q.pins) (target q.pins) (Err u) → Wires l q (Err (untold_of u))
+  unfolding Wires
+  wires_untold u a = untold_by l q g u (routes (Err u) a)
 
 -- ---- how many corners
 

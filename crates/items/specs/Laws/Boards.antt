@@ -2,7 +2,7 @@
 -- Assumes nothing.
 use Prim.Native.Nat.{ℕ, suc, ◌+◌, ◌-◌}
 use Rattle.std.proofs.Common.{arith, ◌∙◌}
-use Rattle.std.specs.Prelude.{◌≡◌, refl}
+use Rattle.std.specs.Prelude.{◌≡◌, refl, Some}
 use Rattle.std.proofs.Math.Path.{sym, ap}
 use mathlib.Core.List.{List, map}
 use Rattle.std.proofs.Math.ListN.{length, length-map}
@@ -16,7 +16,6 @@ use Rattle.paper.specs.Laws.Among.{all_add}
 use Rattle.paper.proofs.Among.{all_without}
 use Rattle.paper.specs.Laws.Filled.{put_at, left_at, length_left}
 use Rattle.paper.specs.Laws.Standing.{Standing, standing, thing_id, count_is}
-use Rattle.items.specs.declared.Found.TheVariants.{At}
 use Rattle.items.specs.Items.{with_items, Whole, IdAt, PlaceIs, PutIn, LeftOut, Room}
 use Rattle.items.specs.Laws.Found.{put_add, length_add, found_without, without_few}
 use Rattle.items.specs.Laws.Arrays.{map_put, map_left}
@@ -50,7 +49,7 @@ module _ (b : Board) (s : Standing b) where
       = ap (put_at (map item_of ts) at) w ∙ map_put item_of ts at t ∙ ap (map item_of) a in
       with_items_lem (b.count + 1) r (add t ts) (omega (arith, count_is b s, length_add t ts)) (q (map item_of ts) n items_are ∙ ap (filled no_item most_blocks) e)
 
-  pub left_board : (i at : ℕ) (r : List Item) → IdAt (layout_of b).items i (At at) → LeftOut b.items b.count at r
+  pub left_board : (i at : ℕ) (r : List Item) → IdAt (layout_of b).items i (Some at) → LeftOut b.items b.count at r
       → items_set b (b.count - 1) r ≡ board_of (with_items (layout_of b) (without i (layout_of b).items))
   unfolding LeftOut IdAt
   left_board i at r p q =

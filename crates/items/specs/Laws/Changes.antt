@@ -26,7 +26,7 @@ changes_set b n cs = record { size = b.size; count = b.count; items = b.items; k
 abbrev pub change : ℕ → Item → Change
 change k m = record { kind = k; item = m }
 
-kind_is : (m : Item) → added_kind (thing_of m) ≡ kind_for m.runs
+pub kind_is : (m : Item) → added_kind (thing_of m) ≡ kind_for m.runs
 unfolding thing_of added_kind
 kind_is m = go (eqb m.runs 0) _ _ _ _
   where

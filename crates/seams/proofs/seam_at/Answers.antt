@@ -1,26 +1,13 @@
 -- `seams::seam_at` meets its contract: by the rectangle, if there is one.
-use Rattle.std.proofs.Math.Path.{refl}
-use Rattle.seams.specs.Laws.Crossing.{seam_first, seam_second, seam_over, seam_apart}
+use Rattle.std.proofs.Common.{rules}
+use Rattle.seams.specs.Laws.Crossing.{seam_first, seam_second, seam_kept}
 use Rattle.seams.proofs.seam_at.Goals as goal
 
-pub returns-then-b-l : goal.returns-then-b-l
-returns-then-b-l c = seam_first _ _ _ _ c.if-b-l.true
+pub returns-in_default : goal.returns-in_default
+returns-in_default c = seam_second _ _ _ _ c.in_default.ensures'
 
-pub returns-then-b-m : goal.returns-then-b-m
-returns-then-b-m c = seam_second _ _ _ _ c.if-b-m.true
+pub returns-in_default-2 : goal.returns-in_default-2
+returns-in_default-2 c = seam_first _ _ _ _ (rw c.in_default.is-0 at c.keep_out.ensures)
 
-pub place_at-requires : goal.place_at-requires
-place_at-requires c = c.requires.0.kept _ c.requires.2 c.if-b-l.false
-
-pub place_at-requires-2 : goal.place_at-requires-2
-place_at-requires-2 c = c.requires.0.kept _ c.requires.1 c.if-b-m.false
-
-pub returns-in-Over : goal.returns-in-Over
-returns-in-Over c =
-    seam_over _ _ _ _ _ _ _ c.if-b-l.false c.if-b-m.false c.place_at.ensures c.place_at-2.ensures c.in-Over.ensures _ _
-    refl c.lies_on.ensures
-
-pub returns-in-Apart : goal.returns-in-Apart
-returns-in-Apart c =
-    seam_apart _ _ _ _ _ _ _ c.if-b-l.false c.if-b-m.false c.place_at.ensures c.place_at-2.ensures c.in-Apart.ensures
-    refl
+pub returns-in-Some-Some : goal.returns-in-Some-Some
+returns-in-Some-Some c = seam_kept c.args.held.now c.args.p c.args.m c.args.l _ _ _ _ c.in-Some-Some.ensures c.in-Some-Some.ensures' c.join.ensures (search rules)

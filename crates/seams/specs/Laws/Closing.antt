@@ -23,8 +23,8 @@ use Rattle.paper.proofs.Closing.{seamless_in, seamless_out}
 use Rattle.blocks.specs.declared.Blocks.{Blocks}
 use Rattle.blocks.specs.declared.Place.{Place}
 use Rattle.blocks.specs.declared.Look.TheVariants.{Wires}
-use Rattle.blocks.specs.Flat.{block_at, listed, first_at, looked, is_wire, Held}
-use Rattle.seams.specs.Seaming.{place_box, box_place, Keeps, place_at, kept_at, Across, Crosses, CrossesOf, CrossedAt, CrossedAny}
+use Rattle.blocks.specs.Flat.{place_at, block_at, listed, first_at, looked, is_wire, Held}
+use Rattle.seams.specs.Seaming.{place_box, box_place, Keeps, kept_at, Across, Crosses, CrossesOf, CrossedAt, CrossedAny}
 use Rattle.blocks.specs.Laws.Held.{items_are, held_fits, held_wire, held_blocks}
 use Rattle.blocks.specs.Laws.Found.{some_at, StopsAt, stops_thing, thing_stops, look_for, looked_sort, own_sort}
 

@@ -1,7 +1,7 @@
 -- What the tests of rectangles against the wires that are held say, step by step.
 -- Assumes nothing.
-use Rattle.std.specs.Prelude.{ℕ, ◌≤◌, ◌<◌, ◌≡◌, Bool, true, false, ◌⊎◌, get_or}
-use Rattle.std.proofs.Common.{arith, sym, ◌∙◌, inl, inr}
+use Rattle.std.specs.Prelude.{ℕ, ◌≡◌, Bool, true, false, ◌⊎◌, get_or, Option, Some, None, is_some, MatchOption}
+use Rattle.std.proofs.Common.{sym, ◌∙◌, inl, inr}
 use Rattle.std.proofs.Math.Path.{ap, subst}
 use Rattle.std.proofs.Math.Logic.{⊎_elim}
 use mathlib.Core.List.{[], ◌∷◌}
@@ -13,101 +13,76 @@ use Rattle.blocks.specs.declared.Blocks.{Blocks}
 use Rattle.blocks.specs.declared.Place.{Place}
 use Rattle.blocks.specs.declared.Look.{Look}
 use Rattle.blocks.specs.declared.Look.TheVariants.{Wires}
-use Rattle.blocks.specs.declared.Found.{Found}
-use Rattle.blocks.specs.declared.Found.TheVariants.{At, Nothing}
-use Rattle.seams.specs.declared.Joined.{Joined}
-use Rattle.seams.specs.declared.Joined.TheVariants.{Over, Apart}
-use Rattle.blocks.specs.Flat.{place_area, first_at, FirstIs, is_found, Hit}
+use Rattle.blocks.specs.Flat.{place_area, place_at, first_at, FirstIs, Hit}
 use Rattle.blocks.specs.Laws.Found.{one_found}
 use Rattle.blocks.specs.Laws.Meeting.{one_said}
-use Rattle.seams.specs.Seaming.{place_box, joined_is, place_at, kept_at, Across, Crosses, CrossesOf, CrossedAt, SeamAt, HitOr}
+use Rattle.seams.specs.Seaming.{place_box, joined_is, kept_at, Across, Crosses, CrossesOf, CrossedAt, SeamAt, HitOr}
 
 -- ---- one scan
 
-pub across_at : (b : Blocks) (p : Place) (i : ℕ) (r : Found) → FirstIs b Wires p r → r ≡ At i → Says true (Across b (place_box p))
-unfolding FirstIs
-across_at b p i r f e = says_always (i, (subst (FirstIs b Wires p) e f).0)
-
-pub across_none : (b : Blocks) (p : Place) (r : Found) → FirstIs b Wires p r → r ≡ Nothing → Says false (Across b (place_box p))
-unfolding FirstIs
-across_none b p r f e = says_never (λ h. subst (FirstIs b Wires p) e f h.0 h.1)
+hit_across : (b : Blocks) (p : Place) (r : Bool) → Hit b Wires p r → Says r (Across b (place_box p))
+unfolding Hit FirstIs
+hit_across b p r (Some i, f, e) = rw e (says_always (i, f.0))
+hit_across b p r (None, f, e) = rw e (says_never (λ h. f h.0 h.1))
 
 -- ---- one keep-out
+
+-- the rectangle of item m, if it is a keep-out
+abbrev pub IsKept : Blocks → ℕ → Option Place → Type 0
+IsKept b m o = MatchOption o (get_or b.wires m false ≡ true) (λ q. (get_or b.wires m false ≡ false) × (q ≡ place_at b (first_at b m)))
+
+not_both : {v : Bool} → v ≡ true → v ≡ false → ⊥
+not_both e f = subst T (sym e ∙ f) tt
 
 module _ (b : Blocks) (p : Place) (m : ℕ) where
   pub crosses_wire : get_or b.wires m false ≡ true → Says false (Crosses b p m)
   unfolding Crosses
-  crosses_wire e = says_never (λ h. subst T (sym e ∙ h.0) tt)
+  crosses_wire e = says_never (λ h. not_both e h.0)
 
-  module _ (a : Place) (j : Joined) (k : get_or b.wires m false ≡ false) (e : a ≡ place_at b (first_at b m))
-      (f : join_of (place_box a) (place_box p) ≡ joined_is j) where
-    rectangles : join_of (kept_at b m) (place_box p) ≡ joined_is j
-    rectangles = rw e at f
-
-    pub crosses_over : (q : Place) (r : Bool) → j ≡ Over q → Says r (Across b (place_box q)) → Says r (Crosses b p m)
-    unfolding Crosses Any
-    crosses_over q r o s =
-        let w : join_of (kept_at b m) (place_box p) ≡ place_box q ∷ [] = rectangles ∙ ap joined_is o in
-        says_as (λ h. (k, rw w (inl h))) (λ h. ⊎_elim (λ x. x) (λ x. absurd x) (rw w at h.1)) s
-
-    pub crosses_apart : j ≡ Apart → Says false (Crosses b p m)
-    unfolding Crosses Any
-    crosses_apart o =
-        let w : join_of (kept_at b m) (place_box p) ≡ [] = rectangles ∙ ap joined_is o in
-        says_never (λ h. rw w at h.1)
+  pub crosses_kept : (a : Place) (j : Option Place) (r : Bool) → (get_or b.wires m false ≡ false) × (a ≡ place_at b (first_at b m))
+      → join_of (place_box a) (place_box p) ≡ joined_is j → MatchOption j (r ≡ false) (λ q. Hit b Wires q r) → Says r (Crosses b p m)
+  unfolding Crosses Any
+  crosses_kept a (Some q) r k f s =
+      let w : join_of (kept_at b m) (place_box p) ≡ place_box q ∷ [] = rw k.1 at f in
+      says_as (λ h. (k.0, rw w (inl h))) (λ h. ⊎_elim (λ x. x) (λ x. absurd x) (rw w at h.1)) (hit_across b q r s)
+  crosses_kept a None r k f s =
+      let w : join_of (kept_at b m) (place_box p) ≡ [] = rw k.1 at f in
+      rw s (says_never (λ h. rw w at h.1))
 
 -- ---- one, and those before it
 
-module _ (b : Blocks) (i : ℕ) where
-  pub crossed_wire : get_or b.wires i false ≡ true → Says false (CrossedAt b i)
-  unfolding CrossedAt
-  crossed_wire e = says_never (λ h. subst T (sym e ∙ h.0) tt)
-
-  pub crossed_kept : (p : Place) (r : Bool) → get_or b.wires i false ≡ false → p ≡ place_at b (first_at b i) → Says r (CrossesOf b i p) → Says r (CrossedAt b i)
-  unfolding CrossedAt
-  crossed_kept p r k e s = says_as (λ h. (k, subst (CrossesOf b i) e h)) (λ h. subst (CrossesOf b i) (sym e) h.1) s
+pub crossed_says : (b : Blocks) (i : ℕ) (o : Option Place) (r : Bool) → IsKept b i o → MatchOption o (r ≡ false) (λ q. Says r (CrossesOf b i q))
+    → Says r (CrossedAt b i)
+unfolding CrossedAt
+crossed_says b i (Some q) r k s = says_as (λ h. (k.0, subst (CrossesOf b i) k.1 h)) (λ h. subst (CrossesOf b i) (sym k.1) h.1) s
+crossed_says b i None r k s = rw s (says_never (λ h. not_both k h.0))
 
 -- ---- two keep-outs
 
 module _ (b : Blocks) (p : Place) (m l : ℕ) where
   pub seam_first : get_or b.wires l false ≡ true → Says false (SeamAt b p m l)
   unfolding SeamAt
-  seam_first e = says_never (λ h. subst T (sym e ∙ h.0) tt)
+  seam_first e = says_never (λ h. not_both e h.0)
 
   pub seam_second : get_or b.wires m false ≡ true → Says false (SeamAt b p m l)
   unfolding SeamAt
-  seam_second e = says_never (λ h. subst T (sym e ∙ h.1) tt)
+  seam_second e = says_never (λ h. not_both e h.1)
 
-  module _ (a c : Place) (j : Joined) (k : get_or b.wires l false ≡ false) (w : get_or b.wires m false ≡ false) (e : a ≡ place_at b (first_at b l))
-      (d : c ≡ place_at b (first_at b m)) (f : join_of (place_box a) (place_box c) ≡ joined_is j) where
-    rectangle : join_of (kept_at b l) (kept_at b m) ≡ joined_is j
-    rectangle = rw (e, d) at f
-
-    pub seam_over : (q : Place) (r : Bool) → j ≡ Over q → Says r (Hits (place_box q) (place_area p)) → Says r (SeamAt b p m l)
-    unfolding SeamAt Blocked Any
-    seam_over q r o s =
-        let z : join_of (kept_at b l) (kept_at b m) ≡ place_box q ∷ [] = rectangle ∙ ap joined_is o in
-        says_as (λ h. (k, w, rw z (inl h))) (λ h. ⊎_elim (λ x. x) (λ x. absurd x) (rw z at h.2)) s
-
-    pub seam_apart : j ≡ Apart → Says false (SeamAt b p m l)
-    unfolding SeamAt Blocked Any
-    seam_apart o =
-        let z : join_of (kept_at b l) (kept_at b m) ≡ [] = rectangle ∙ ap joined_is o in
-        says_never (λ h. rw z at h.2)
-
--- ---- one after another
-
-pub first_yes : (P : ℕ → Type 0) (n m : ℕ) → m < n → P m → Says true ((m : ℕ) × (m < n) × P m)
-first_yes P n m h p = says_always (m, h, p)
-
-pub first_no : (P : ℕ → Type 0) (n m : ℕ) → n ≤ m → ((j : ℕ) → j < m → ¬ (P j)) → Says false ((m : ℕ) × (m < n) × P m)
-first_no P n m h f = says_never (λ k. f k.0 (omega (arith, k.1)) k.2)
+  pub seam_kept : (a c : Place) (j : Option Place) (r : Bool) → IsKept b l (Some a) → IsKept b m (Some c)
+      → join_of (place_box a) (place_box c) ≡ joined_is j → MatchOption j (r ≡ false) (λ q. Says r (Hits (place_box q) (place_area p))) → Says r (SeamAt b p m l)
+  unfolding SeamAt Blocked Any
+  seam_kept a c (Some q) r k w f s =
+      let z : join_of (kept_at b l) (kept_at b m) ≡ place_box q ∷ [] = rw (k.1, w.1) at f in
+      says_as (λ h. (k.0, w.0, rw z (inl h))) (λ h. ⊎_elim (λ x. x) (λ x. absurd x) (rw z at h.2)) s
+  seam_kept a c None r k w f s =
+      let z : join_of (kept_at b l) (kept_at b m) ≡ [] = rw (k.1, w.1) at f in
+      rw s (says_never (λ h. rw z at h.2))
 
 -- ---- what blocks the place, or else P: one answer
 
 pub one_hit_or : (b : Blocks) (look : Look) (p : Place) (P : Type 0) (r q : Bool) → HitOr b look p P r → HitOr b look p P q → r ≡ q
 unfolding HitOr Hit
-one_hit_or b look p P r q (a, h, f) (c, k, g) = go (h.2 ∙ ap is_found (one_found b look p h.0 k.0 h.1 k.1) ∙ sym k.2) f g
+one_hit_or b look p P r q (a, h, f) (c, k, g) = go (h.2 ∙ ap is_some (one_found b look p h.0 k.0 h.1 k.1) ∙ sym k.2) f g
   where
     not_both : true ≡ false → ⊥
     not_both e = subst T e tt

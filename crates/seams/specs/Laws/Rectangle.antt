@@ -1,14 +1,12 @@
 -- The rectangle of two places, by the numbers that the code has.
 -- Assumes nothing.
-use Rattle.std.specs.Prelude.{ℕ, ◌<◌, min, max, ◌≡◌, refl}
+use Rattle.std.specs.Prelude.{ℕ, ◌<◌, min, max, ◌≡◌, refl, Option, Some, None}
 use Rattle.std.proofs.Common.{arith, ◌∙◌}
 use Rattle.std.proofs.Math.Path.{sym, ap}
 use mathlib.Core.List.{List, [], ◌∷◌, head-eq_of_cons-eq}
 use Rattle.paper.specs.Laws.Joins.{Touch, Share, beam, post, join_of}
 use Rattle.paper.specs.Laws.Joining.{join_beam, join_post, join_none}
 use Rattle.blocks.specs.declared.Place.{Place}
-use Rattle.seams.specs.declared.Joined.{Joined}
-use Rattle.seams.specs.declared.Joined.TheVariants.{Over, Apart}
 use Rattle.seams.specs.Seaming.{place_box, joined_is}
 
 some_none : {A : Type 0} {x : A} {xs : List A} → [] ≡ x ∷ xs → ⊥
@@ -53,10 +51,10 @@ module _ (a b : Place) (x0 y0 x1 y1 : ℕ) (h : Commonly a b x0 y0 x1 y1) where
       (λ k. m (omega (arith, k.0, h.low_x, h.high_x), omega (arith, k.1, h.low_y, h.high_y)))
 
 -- the rectangle decides what is returned
-pub one_joined : (r q : Joined) → joined_is r ≡ joined_is q → r ≡ q
-one_joined (Over p) (Over q) e =
+pub one_joined : (r q : Option Place) → joined_is r ≡ joined_is q → r ≡ q
+one_joined (Some p) (Some q) e =
     let b : place_box p ≡ place_box q = head-eq_of_cons-eq e in
-    ap Over (λ i. record { x0 = (b i).along_x.lo; y0 = (b i).along_y.lo; x1 = (b i).along_x.hi; y1 = (b i).along_y.hi })
-one_joined (Over p) Apart e = absurd (some_none (sym e))
-one_joined Apart (Over q) e = absurd (some_none e)
-one_joined Apart Apart e = refl
+    ap Some (λ i. record { x0 = (b i).along_x.lo; y0 = (b i).along_y.lo; x1 = (b i).along_x.hi; y1 = (b i).along_y.hi })
+one_joined (Some p) None e = absurd (some_none (sym e))
+one_joined None (Some q) e = absurd (some_none e)
+one_joined None None e = refl

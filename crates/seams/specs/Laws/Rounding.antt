@@ -1,6 +1,6 @@
 -- The cells round a node, looked at one after another.
 -- Assumes nothing.
-use Rattle.std.specs.Prelude.{ℕ, ◌+◌, ◌≤◌, min, ◌≡◌, ◌⊎◌}
+use Rattle.std.specs.Prelude.{ℕ, ◌+◌, ◌≤◌, min, ◌≡◌, ◌⊎◌, Option, Some, None}
 use native.Mathlib.Omega.{arith}
 use Rattle.std.proofs.Math.Decide.{dec_lt, dec_le}
 use Rattle.std.proofs.Math.Path.{refl, ap, subst}
@@ -10,33 +10,28 @@ use Rattle.paper.specs.Grid.{Any, All}
 use Rattle.blocks.specs.declared.Blocks.{Blocks}
 use Rattle.blocks.specs.declared.Place.{Place}
 use Rattle.blocks.specs.declared.Look.TheVariants.{KeepOuts}
-use Rattle.blocks.specs.declared.Found.{Found}
-use Rattle.blocks.specs.declared.Found.TheVariants.{At, Nothing}
 use Rattle.blocks.specs.Flat.{Stops, FirstIs}
 use Rattle.seams.specs.Seaming.{cell_at, HoldsOne, Sunk, RoundIs}
 
 one_of : (a b : ℕ) → (min a b ≡ a) ⊎ (min a b ≡ b)
 one_of a b = elim (dec_le a b) [ yes h ↦ inl (omega arith) | no h ↦ inr (omega arith) ]
 
--- what a scan found, or that it found nothing
-pub found_at : (b : Blocks) (q : Place) (r : Found) (i : ℕ) → FirstIs b KeepOuts q r → r ≡ At i → FirstIs b KeepOuts q (At i)
-found_at b q r i f e = subst (FirstIs b KeepOuts q) e f
-
-pub found_none : (b : Blocks) (q : Place) (r : Found) → FirstIs b KeepOuts q r → r ≡ Nothing → ¬ ((i : ℕ) × Stops b KeepOuts q i)
+-- where a scan found nothing
+pub found_none : (b : Blocks) (q : Place) → FirstIs b KeepOuts q None → ¬ ((i : ℕ) × Stops b KeepOuts q i)
 unfolding FirstIs
-found_none b q r f e h = subst (FirstIs b KeepOuts q) e f h.0 h.1
+found_none b q f h = f h.0 h.1
 
 module _ (b : Blocks) (x y : ℕ) where
-  pub not_sunk : ¬ (Sunk b x y) → RoundIs b x y Nothing
+  pub not_sunk : ¬ (Sunk b x y) → RoundIs b x y None
   unfolding RoundIs
   not_sunk n = n
 
   abbrev Stop : Place → ℕ → Type 0
-  Stop q i = FirstIs b KeepOuts q (At i)
+  Stop q i = FirstIs b KeepOuts q (Some i)
 
   pub round_at : (i j k l n : ℕ) → 1 ≤ x → 1 ≤ y
       → Stop (cell_at x y) i → Stop (cell_at (x + 1) y) j → Stop (cell_at x (y + 1)) k → Stop (cell_at (x + 1) (y + 1)) l
-      → n ≡ min (min i j) (min k l) → RoundIs b x y (At n)
+      → n ≡ min (min i j) (min k l) → RoundIs b x y (Some n)
   unfolding RoundIs FirstIs Any All
   round_at i j k l n hx hy p q r s e = (
     (hx, hy, ((i, p.0), ((j, q.0), ((k, r.0), ((l, s.0), tt))))),
@@ -49,13 +44,13 @@ module _ (b : Blocks) (x y : ℕ) where
   )
 
   -- one answer
-  pub one_round : (r q : Found) → RoundIs b x y r → RoundIs b x y q → r ≡ q
+  pub one_round : (r q : Option ℕ) → RoundIs b x y r → RoundIs b x y q → r ≡ q
   unfolding RoundIs
-  one_round (At i) (At j) f g =
+  one_round (Some i) (Some j) f g =
       elim (dec_lt i j) [
         | yes h ↦ absurd (g.2 i h f.1)
-        | no h ↦ elim (dec_lt j i) [ yes k ↦ absurd (f.2 j k g.1) | no k ↦ (let e : i ≡ j = omega arith in ap At e) ]
+        | no h ↦ elim (dec_lt j i) [ yes k ↦ absurd (f.2 j k g.1) | no k ↦ (let e : i ≡ j = omega arith in ap Some e) ]
       ]
-  one_round (At i) Nothing f g = absurd (g f.0)
-  one_round Nothing (At j) f g = absurd (f g.0)
-  one_round Nothing Nothing f g = refl
+  one_round (Some i) None f g = absurd (g f.0)
+  one_round None (Some j) f g = absurd (f g.0)
+  one_round None None f g = refl

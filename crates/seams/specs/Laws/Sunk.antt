@@ -1,6 +1,6 @@
 -- A node in the midst of four cells of keep-outs, as the arrays and as the things have it.
 -- Assumes nothing.
-use Rattle.std.specs.Prelude.{ℕ, ◌+◌, ◌≤◌, ◌<◌, ◌≡◌, refl, List, length, T}
+use Rattle.std.specs.Prelude.{ℕ, ◌+◌, ◌≤◌, ◌<◌, ◌≡◌, refl, List, length, T, Option, Some, None}
 use Rattle.std.proofs.Common.{arith, sym, subst, ⊎_elim}
 use Rattle.std.proofs.Math.Logic.{inl, inr}
 use Rattle.paper.specs.Grid.{Node, E, N, step, Meets, Hits, Any, All, Blocked}
@@ -10,8 +10,6 @@ use Rattle.paper.specs.Laws.Standing.{thing_at}
 use Rattle.blocks.specs.declared.Blocks.{Blocks}
 use Rattle.blocks.specs.declared.Place.{Place}
 use Rattle.blocks.specs.declared.Look.TheVariants.{KeepOuts}
-use Rattle.blocks.specs.declared.Found.{Found}
-use Rattle.blocks.specs.declared.Found.TheVariants.{At, Nothing}
 use Rattle.blocks.specs.Flat.{Stops, Held}
 use Rattle.seams.specs.Seaming.{HoldsOne, Sunk, RoundIs}
 use Rattle.blocks.specs.Laws.Found.{FoundAmong, first_of, some_at, StopsAt, stops_thing, thing_stops}
@@ -110,11 +108,11 @@ module _ {b : Blocks} {c : ℕ} {to : Sort} {ts : List Thing} (held : Held b c t
     Encloses t = Sealed ts (round here) × Any (Covers t) (round here)
 
     -- the one that is found is the first that does
-    pub round_found : (r : Found) → RoundIs b x y r → FoundAmong Encloses ts r
+    pub round_found : (r : Option ℕ) → RoundIs b x y r → FoundAmong Encloses ts r
     unfolding RoundIs FoundAmong
-    round_found (At i) f =
+    round_found (Some i) f =
         let hx = f.0.0 in
         let hy = f.0.1 in
         let u = holds_out hx hy i f.1 in
         first_of Encloses ts i u.0 (sunk_out f.0, u.1) (λ j l q. f.2 j l (holds_in hx hy j (omega (arith, u.0)) q.1))
-    round_found Nothing f = λ a. let s = some_at Encloses ts a in f (sunk_in s.2.0)
+    round_found None f = λ a. let s = some_at Encloses ts a in f (sunk_in s.2.0)

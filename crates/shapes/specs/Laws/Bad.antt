@@ -3,15 +3,16 @@
 use Prim.Native.Nat.{ℕ, zero, suc, ◌+◌, ◌-◌, ◌≤◌, ◌<◌}
 use native.Mathlib.Omega.{arith}
 use Rattle.std.proofs.Common.{add-one, sym, inl, inr, ⊎_elim}
-use Rattle.std.specs.Prelude.{◌≡◌, Bool, true, false, not, ◌⊎◌, List, [], ◌∷◌, length}
+use Rattle.std.specs.Prelude.{◌≡◌, refl, Err, Bool, true, false, not, ◌⊎◌, List, [], ◌∷◌, length}
 use Rattle.std.proofs.Math.Path.{ap, subst}
 use Rattle.paper.specs.declared.Item.{Item}
+use Rattle.paper.specs.declared.Refusal.TheVariants.{BadRun}
 use Rattle.paper.specs.declared.Verdict.{Verdict}
 use Rattle.paper.specs.Limits.{most_corners, most_runs}
 use Rattle.paper.specs.Grid.{Axis, level, upright, Area}
 use Rattle.paper.specs.Wire.{runs}
 use Rattle.paper.specs.Layout.{Along, across}
-use Rattle.paper.specs.Answer.{placed, Check, ◌about◌if◌, Gives}
+use Rattle.paper.specs.Answer.{placed, plain, Check, ◌about◌if◌, Gives}
 use Rattle.paper.specs.Drawn.{Bent, Unturned, shape_checks}
 use Rattle.paper.specs.Laws.Says.{Says}
 use Rattle.paper.specs.Laws.Tests.{alongb, along_says}
@@ -21,7 +22,7 @@ use Rattle.blocks.specs.Growing.{stretch_at}
 use Rattle.shapes.specs.Corners.{axis_for, corners_of}
 use Rattle.shapes.specs.Laws.Corners.{runs_are, other_axis}
 use Rattle.shapes.specs.declared.Fault.{Fault}
-use Rattle.shapes.specs.Faults.{fault_of, no_fault, fault_at}
+use Rattle.shapes.specs.Faults.{fault_of, fault_at}
 
 -- the runs, the first of which is run k, go along the axis by turns
 unfoldable pub by_turns : Axis → ℕ → List Area → List Check
@@ -119,10 +120,10 @@ module _ (m : Item) (n : ℕ) where
               (subst (λ i. Gives (by_turns (axis_for (not flat)) i (listed (stretch_at m) (k + 1) (n - (k + 1)))) v) (add-one (k + 1)) g),
         )))
 
-    pub ahead_stop : k < n → ¬ (Along (axis_for flat) (stretch_at m k)) → (r : Fault) → r ≡ fault_at 23 k → Gives (shape_checks 1 (runs (corners_of m (n + 1)))) (fault_of r)
+    pub ahead_stop : k < n → ¬ (Along (axis_for flat) (stretch_at m k)) → (f : Fault) → f ≡ fault_at BadRun k → Gives (shape_checks 1 (runs (corners_of m (n + 1)))) (fault_of (Err f))
     unfolding Ahead Gives by_turns
-    ahead_stop h a r e = t (fault_of r) (rw (onward h) (inl (a, ap fault_of e)))
+    ahead_stop h a f e = t (fault_of (Err f)) (rw (onward h) (inl (a, ap (λ f. fault_of (Err f)) e)))
 
-    pub ahead_end : n ≤ k → (r : Fault) → r ≡ no_fault → Gives (shape_checks 1 (runs (corners_of m (n + 1)))) (fault_of r)
+    pub ahead_end : n ≤ k → Gives (shape_checks 1 (runs (corners_of m (n + 1)))) (plain 0)
     unfolding Ahead Gives by_turns listed
-    ahead_end h r e = let z : n - k ≡ 0 = omega arith in t (fault_of r) (rw z (ap fault_of e))
+    ahead_end h = let z : n - k ≡ 0 = omega arith in t (plain 0) (rw z refl)

@@ -4,7 +4,7 @@ use Prim.Native.Nat.{ℕ, zero, suc, ◌+◌, ◌≤◌, ◌<◌}
 use native.Mathlib.Omega.{arith}
 use Rattle.std.proofs.Math.Nat.{add-zero}
 use Rattle.std.proofs.Common.{zero-add, add-one, sym, subst, ◌∙◌, length-take-le, get_or-take}
-use Rattle.std.specs.Prelude.{◌≡◌, refl, Bool, true, false, not, List, [], ◌∷◌, length, get_or, take}
+use Rattle.std.specs.Prelude.{◌≡◌, refl, Bool, true, false, not, nat_eq, List, [], ◌∷◌, length, get_or, take}
 use Rattle.std.proofs.Math.Path.{ap}
 use Rattle.paper.specs.declared.Item.{Item}
 use Rattle.paper.specs.Limits.{most_corners, most_runs}
@@ -12,7 +12,7 @@ use Rattle.paper.specs.Grid.{Node, Area, All}
 use Rattle.paper.specs.Wire.{between, runs}
 use Rattle.paper.specs.Layout.{Along, across, last_of, EndsDiffer}
 use Rattle.paper.specs.Laws.Back.{nodes, length_nodes}
-use Rattle.paper.specs.Laws.Says.{Says}
+use Rattle.paper.specs.Laws.Says.{Says, says_as, says_ne}
 use Rattle.blocks.specs.Flat.{listed}
 use Rattle.blocks.specs.Growing.{corner_at, stretch_at}
 use Rattle.blocks.specs.Laws.Lists.{listed_is}
@@ -96,8 +96,12 @@ module _ (m : Item) (lx : length m.xs ≡ most_corners) (ly : length m.ys ≡ mo
         ap EndsDiffer (corners_one n few)
         ∙ (unfold listed in ap (λ p. ¬ (corner_at m 0 ≡ p)) (last_listed (corner_at m) 0 n ∙ ap (corner_at m) (zero-add n)))
 
-    pub ends_say : (r : Bool) → Says r (¬ (corner_at m 0 ≡ corner_at m n)) → Says r (EndsDiffer (corners_of m (n + 1)))
-    ends_say r s = rw ends_are s
+    -- on the one axis, or else on the other
+    pub ends_x : ¬ (get_or m.xs 0 0 ≡ get_or m.xs n 0) → Says (not (nat_eq (get_or m.xs 0 0) (get_or m.xs n 0))) (EndsDiffer (corners_of m (n + 1)))
+    ends_x d = rw ends_are (says_as (λ x e. x (ap (λ p. p.x) e)) (λ e. d) (says_ne _ _))
+
+    pub ends_y : get_or m.xs 0 0 ≡ get_or m.xs n 0 → Says (not (nat_eq (get_or m.ys 0 0) (get_or m.ys n 0))) (EndsDiffer (corners_of m (n + 1)))
+    ends_y x = rw ends_are (says_as (λ y e. y (ap (λ p. p.y) e)) (λ d e. d (λ i. record { x = x i; y = e i })) (says_ne _ _))
 
     -- ---- the runs
 

@@ -1,7 +1,7 @@
 -- `sheet::put_blame` meets its contract: the pin and the id, each after a space.
-use native.Mathlib.Omega.{arith}
+use Rattle.std.proofs.Common.{arith}
 use Rattle.sheet.specs.Sheet.{blame_in}
-use Rattle.text.specs.Laws.Written.{◌then◌, byte_reach, three_digits, five_digits, writes_none}
+use Rattle.text.specs.Laws.Written.{◌then◌, next_three, next_five, writes_none}
 use Rattle.sheet.specs.Laws.Lines.{blame_told}
 use Rattle.sheet.proofs.put_blame.Goals as goal
 
@@ -10,24 +10,13 @@ unfolding blame_in
 returns-then-pin-eq0 c =
     (rw c.if-pin-eq0.true (writes_none c.args.buffer.now c.args.at (omega (arith, c.requires))), omega arith)
 
-pub put_number-named-requires : goal.put_number-named-requires
-put_number-named-requires c =
-    let e = byte_reach c.put_byte-first.ensures in
-    omega (arith, e.near, e.same_length, c.requires)
-
-pub put_byte-second-requires : goal.put_byte-second-requires
-put_byte-second-requires c =
-    let e = byte_reach c.put_byte-first.ensures then three_digits c.put_number-named.ensures (omega (arith, c.ranges.pin)) in
-    omega (arith, e.near, e.same_length, c.requires)
-
-pub put_number-requires : goal.put_number-requires
-put_number-requires c =
-    let e = byte_reach c.put_byte-first.ensures then three_digits c.put_number-named.ensures (omega (arith, c.ranges.pin))
-    then byte_reach c.put_byte-second.ensures in
+pub put_next-requires : goal.put_next-requires
+put_next-requires c =
+    let e = next_three c.put_next-named.ensures.0 (omega (arith, c.from.ensures, c.ranges.pin)) in
     omega (arith, e.near, e.same_length, c.requires)
 
 pub returns : goal.returns
 returns c =
-    let e = byte_reach c.put_byte-first.ensures then three_digits c.put_number-named.ensures (omega (arith, c.ranges.pin))
-    then byte_reach c.put_byte-second.ensures then five_digits c.put_number.ensures (omega (arith, c.ranges.id)) in
-    (rw (blame_told c.args.pin c.args.id c.if-pin-eq0.false) e.writes, e.near)
+    let e = next_three c.put_next-named.ensures.0 (omega (arith, c.from.ensures, c.ranges.pin))
+    then next_five c.put_next.ensures.0 (omega (arith, c.from-2.ensures, c.ranges.id)) in
+    (rw (blame_told c.args.pin c.args.id c.if-pin-eq0.false) (rw (c.from.ensures, c.from-2.ensures) at e.writes), e.near)

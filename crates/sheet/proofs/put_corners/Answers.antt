@@ -1,34 +1,24 @@
 -- `sheet::put_corners` meets its contract: the first k corners are written.
-use Prim.Native.Nat.{◌+◌, ◌<◌}
-use native.Mathlib.Omega.{arith}
-use mathlib.Core.Path.{◌≡◌, refl, ◌∙◌}
-use lib.ListN.{length}
+use Rattle.std.proofs.Common.{◌≡◌, ◌+◌, ◌/◌, ◌<◌, length, arith}
 use Rattle.sheet.specs.Sheet.{corners_in}
-use Rattle.text.specs.Laws.Written.{writes_length, writes_none, writes_join}
-use Rattle.sheet.specs.Laws.Lines.{corner_more}
+use Rattle.text.specs.Laws.Written.{writes_none, writes_join}
+use Rattle.sheet.specs.Laws.Lines.{corner_more, corners_whole}
 use Rattle.sheet.proofs.put_corners.Goals as goal
 
 pub loop-k-init : goal.loop-k-init
 unfolding corners_in
-loop-k-init c =
-    (omega arith, refl, omega arith, writes_none c.args.buffer.now c.args.at (omega (arith, c.requires.2)))
-
-pub put_corner-next-requires : goal.put_corner-next-requires
-put_corner-next-requires c =
-    omega (arith, c.loop-k-test.true, c.loop-k.invariant.1, c.loop-k.invariant.2, c.requires.2)
+loop-k-init c = record { near = omega arith; writes = writes_none c.args.buffer.now c.args.at (omega (arith, c.requires)) }
 
 pub loop-k-preserved : goal.loop-k-preserved
 loop-k-preserved c =
     let w = c.put_corner-next.ensures in
-    let h : c.loop-k.k + c.loop-k.k + 1 < length c.args.answer.now = omega (arith, c.loop-k-test.true, c.requires.1) in (
-      omega (arith, c.loop-k-test.true),
-      writes_length w.0 ∙ c.loop-k.invariant.1,
-      omega (arith, w.1, c.loop-k.invariant.2),
-      rw (corner_more c.loop-k.k c.args.answer.now h) (writes_join c.loop-k.invariant.3 w.0),
-    )
+    let h : c.loop-k.k + c.loop-k.k + 1 < length c.args.corners.now = omega (arith, c.loop-k-test.true) in
+    record {
+      near = omega (arith, w.1, c.loop-k.invariant.near);
+      writes = rw (corner_more c.loop-k.k c.args.corners.now h) (writes_join c.loop-k.invariant.writes w.0);
+    }
 
 pub returns : goal.returns
 returns c =
-    let n = c.args.n in
-    let e : c.loop-k.k ≡ n = omega (arith, c.loop-k-test.false, c.loop-k.invariant.0) in
-    (rw e at c.loop-k.invariant.3, omega (arith, c.loop-k.invariant.2))
+    let e : c.loop-k.k ≡ length c.args.corners.now / 2 = omega arith in
+    (rw (corners_whole c.loop-k.k c.args.corners.now e) at c.loop-k.invariant.writes, omega (arith, c.loop-k.invariant.near))

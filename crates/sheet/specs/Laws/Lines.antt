@@ -1,7 +1,7 @@
 -- How a line grows: corner by corner, and the wire before its end.
 -- Assumes nothing.
-use Rattle.std.specs.Prelude.{ℕ, zero, suc, ◌+◌, ◌≤◌, ◌<◌, ◌≡◌, refl, List, [], ◌∷◌, ◌++◌, length, get_or, take}
-use Rattle.std.proofs.Common.{arith, ap, ap₂, ◌∙◌, append_assoc, take-suc, length-take-le}
+use Rattle.std.specs.Prelude.{ℕ, zero, suc, ◌+◌, ◌≤◌, ◌<◌, ◌≡◌, refl, List, [], ◌∷◌, ◌++◌, length, get_or, take, drop, ◌/◌}
+use Rattle.std.proofs.Common.{arith, sym, ap, ap₂, ◌∙◌, append_assoc, append-nil, take-suc, take-append-drop, length-drop, length-take-le}
 use Rattle.text.specs.Text.{number, byte}
 use Rattle.sheet.specs.Sheet.{space, colon, corners_in, wire_in, blame_in}
 
@@ -28,7 +28,29 @@ pub corner_more : (k : ℕ) (s : List ℕ) → k + k + 1 < length s
 corner_more k s h =
     ap corners_in (two_more k s h) ∙ corners_join k (take (k + k) s) _ (length-take-le (k + k) s (omega arith))
 
--- a wire that is told
+-- a number after the last corner is none
+corners_short : (xs : List ℕ) → length xs ≤ 1 → corners_in xs ≡ []
+unfolding corners_in
+corners_short [] h = refl
+corners_short (x ∷ []) h = refl
+corners_short (x ∷ y ∷ xs) h = absurd (omega arith)
+
+pub corners_whole : (m : ℕ) (s : List ℕ) → m ≡ length s / 2 → corners_in (take (m + m) s) ≡ corners_in s
+corners_whole m s e =
+    let front = length-take-le (m + m) s (omega arith) in
+    let whole = corners_join m (take (m + m) s) (drop (m + m) s) front in
+    sym (
+    ap corners_in (sym (take-append-drop (m + m) s)) ∙ whole
+    ∙ ap (λ ps. corners_in (take (m + m) s) ++ ps) (corners_short (drop (m + m) s) (omega (arith, length-drop (m + m) s)))
+    ∙ append-nil (corners_in (take (m + m) s))
+    )
+
+-- a wire that is not told, and one that is
+pub wire_none : (long away : ℕ) (ns : List ℕ) → length ns ≡ 0 → wire_in long away ns ≡ []
+unfolding wire_in
+wire_none long away [] h = refl
+wire_none long away (x ∷ ns) h = absurd (omega arith)
+
 pub wire_told : (long away : ℕ) (ns : List ℕ) → 1 ≤ length ns
     → wire_in long away ns ≡ byte space ∷ number long ∷ byte space ∷ number away ∷ corners_in ns
 unfolding wire_in

@@ -1,27 +1,28 @@
--- The first n items of an array: what is read at a place, and one more.
+-- Items of an array: all together, and one after the other.
 -- Assumes nothing.
-use Rattle.std.specs.Prelude.{ℕ, zero, suc, ◌+◌, ◌≤◌, ◌<◌, ◌≡◌, false, List, [], ◌∷◌, ◌++◌, map, get_or, take, drop}
-use Rattle.std.proofs.Common.{arith, add-one, sym, ap₂, subst₂, ◌∙◌, length-take-le, take-suc, take-take, get_or-take}
+use Rattle.std.specs.Prelude.{Bool, sum_by, ◌*◌, ℕ, zero, suc, ◌+◌, ◌≤◌, ◌<◌, ◌≡◌, false, List, [], ◌∷◌, ◌++◌, map, get_or, take, drop}
+use Rattle.std.proofs.Common.{arith, add-one, sym, ap₂, subst₂, ◌∙◌, take-suc}
 use Rattle.std.proofs.Math.Path.{refl, ap, subst}
 use Rattle.std.proofs.lemmas.List.{map-append}
-use Rattle.std.proofs.Math.ListN.{length}
+use Rattle.std.proofs.lemmas.List.Sums.{sum_by-cons}
+use Rattle.std.proofs.Math.ListN.{length, length-take}
 use Rattle.std.proofs.Math.Seq.{split_at}
 use Rattle.paper.specs.declared.Size.{Size}
 use Rattle.paper.specs.declared.Item.{Item}
 use Rattle.paper.specs.Limits.{most_blocks, most_runs}
+use Rattle.paper.specs.Padding.{no_item}
 use Rattle.paper.specs.Grid.{All, Pairs}
-use Rattle.paper.specs.Layout.{Thing, id_of, areas, block_count, ThingFits, ItemsApart}
-use Rattle.paper.specs.Laws.Lists.{all_join}
+use Rattle.paper.specs.Layout.{Thing, id_of, areas, block_count, Apart, ThingFits, ItemsApart}
 use Rattle.paper.specs.Laws.Filled.{all_at}
 use Rattle.paper.specs.Laws.Back.{thing_of}
-use Rattle.paper.specs.Laws.Says.{Says, says_never}
+use Rattle.paper.specs.Laws.Says.{Says, says_as, says_never}
 use Rattle.paper.specs.Laws.Standing.{thing_id}
 use Rattle.blocks.specs.Meeting.{Placed, block_number}
 use Rattle.blocks.specs.Laws.Meeting.{number_is, number_few}
 use Rattle.items.specs.Items.{Whole}
 use Rattle.soundness.specs.Shape.{things_of}
 use Rattle.soundness.specs.Joining.{AllWhole, AllPlaced, Joins}
-use Rattle.soundness.specs.Laws.Joined.{all_mid, count_more, fits_more, fits_joins, Tops, tops_lower, tops_more, tops_stop}
+use Rattle.soundness.specs.Laws.Joined.{fits_more, fits_joins, Tops, tops_lower, tops_more, tops_stop}
 
 all_take : {A : Type 0} (P : A → Type 0) (i : ℕ) (xs : List A) → All P xs → All P (take i xs)
 unfolding All
@@ -34,51 +35,69 @@ unfolding All
 both_placed s [] a f = tt
 both_placed s (m ∷ ms) a f = (record { whole = a.0; size = s; fits = f.0 }, both_placed s ms a.1 f.1)
 
-module _ (ms : List Item) (long : length ms ≡ most_blocks) (d : Item) (n i : ℕ) (few : n ≤ most_blocks) (h : i < n) where
-  pub front_at : (P : Item → Type 0) → All P (take n ms) → P (get_or ms i d)
-  front_at P a =
-      let l : length (take n ms) ≡ n = length-take-le n ms (omega arith) in
-      subst P (get_or-take n ms i d h) (all_at P d (take n ms) i (omega arith) a)
+-- ---- all together
 
-  things_more : things_of (i + 1) ms ≡ things_of i ms ++ thing_of (get_or ms i d) ∷ []
-  things_more = ap (λ k. things_of k ms) (add-one i) ∙ ap (map thing_of) (take-suc ms i d (omega arith)) ∙ rw map-append
+-- what the code counts for the items
+abbrev pub counted : List Item → ℕ
+counted ms = sum_by (λ m. block_number m.runs) ms
 
-  things_split : things_of n ms ≡ things_of i ms ++ thing_of (get_or ms i d) ∷ map thing_of (drop (suc i) (take n ms))
-  things_split =
-      let l : length (take n ms) ≡ n = length-take-le n ms (omega arith) in
-      ap (map thing_of) (split_at (take n ms) i d (omega arith))
-      ∙ (rw map-append)
-      ∙ ap₂ (λ a b. map thing_of a ++ thing_of b ∷ map thing_of (drop (suc i) (take n ms))) (take-take i n ms (omega arith)) (get_or-take n ms i d h)
+counted_is : (ms : List Item) → All Placed ms → counted ms ≡ block_count (map thing_of ms)
+unfolding All block_count
+counted_is [] a = refl
+counted_is (m ∷ ms) a = sum_by-cons _ m ms ∙ ap₂ ◌+◌ (number_is m a.0) (counted_is ms a.1)
 
-  pub things_at : (P : Thing → Type 0) → All P (things_of n ms) → P (thing_of (get_or ms i d))
-  things_at P a = all_mid P (things_of i ms) (thing_of (get_or ms i d)) _ (subst (All P) things_split a)
+counted_few : (ms : List Item) → All Placed ms → counted ms ≤ most_runs * length ms
+unfolding All
+counted_few [] a = omega arith
+counted_few (m ∷ ms) a = rw (sum_by-cons (λ m. block_number m.runs) m ms) (omega (arith, number_few m a.0, counted_few ms a.1))
 
-  pub all_more : (P : Thing → Type 0) → All P (things_of i ms) → P (thing_of (get_or ms i d)) → All P (things_of (i + 1) ms)
-  unfolding All
-  all_more P a p = subst (All P) (sym things_more) (all_join P (things_of i ms) (thing_of (get_or ms i d) ∷ []) a (p, tt))
+-- a fact of each, by its place
+all_by : (P : Thing → Type 0) (ms : List Item) → ((k : ℕ) → k < length ms → P (thing_of (get_or ms k no_item))) → All P (map thing_of ms)
+unfolding All
+all_by P [] f = tt
+all_by P (m ∷ ms) f = (f 0 (omega arith), all_by P ms (λ k h. f (suc k) (omega arith)))
 
--- what the code counts for the item at i
-module _ (ms : List Item) (long : length ms ≡ most_blocks) (d : Item) (n i k : ℕ) (h : i < n) (p : AllPlaced n ms)
-    (e : k ≡ block_number (get_or ms i d).runs) where
-  placed_at : Placed (get_or ms i d)
-  placed_at = front_at ms long d n i p.few h Placed p.each
+by_all : (P : Thing → Type 0) (ms : List Item) → All P (map thing_of ms) → (k : ℕ) → k < length ms → P (thing_of (get_or ms k no_item))
+unfolding All
+by_all P [] a k h = absurd (omega arith)
+by_all P (m ∷ ms) a zero h = a.0
+by_all P (m ∷ ms) a (suc k) h = by_all P ms a.1 k (omega arith)
 
-  pub counted_few : k ≤ most_runs
-  counted_few = omega (arith, number_few (get_or ms i d) placed_at)
+-- what is tested of each place is said of all things
+pub all_said : (P : Thing → Type 0) (ms : List Item) {r : Bool} → Says r ((k : ℕ) → k < length ms → P (thing_of (get_or ms k no_item)))
+    → Says r (All P (map thing_of ms))
+all_said P ms = says_as (all_by P ms) (by_all P ms)
 
-  pub counted_more : (sum : ℕ) → sum ≡ block_count (things_of i ms) → sum + k ≡ block_count (things_of (i + 1) ms)
-  counted_more sum q =
-      let t = thing_of (get_or ms i d) in
-      let z : block_count [] ≡ 0 = unfold block_count in refl in
-      let l : k ≡ length (areas t) = e ∙ number_is (get_or ms i d) placed_at in
-      let r : sum + k ≡ block_count (things_of i ms ++ t ∷ []) = omega (arith, count_more (things_of i ms) t []) in
-      r ∙ ap block_count (sym (things_more ms long d n i p.few h))
+module _ (ms : List Item) (p : AllPlaced ms) where
+  pub placed_among : (m : Item) (k : ℕ) → k < length ms → m ≡ get_or ms k m → Placed m
+  placed_among m k h e = subst Placed (sym e) (all_at Placed m ms k h p.each)
 
-pub front_placed : (s : Size) (ms : List Item) (n i : ℕ) → AllWhole n ms → i ≤ n → All (ThingFits s) (things_of i ms) → AllPlaced i ms
-front_placed s ms n i w h f = record {
-  few = omega (arith, w.few);
-  each = both_placed s (take i ms) (subst (All Whole) (take-take i n ms h) (all_take Whole i (take n ms) w.each)) f;
-}
+  pub total_is : counted ms ≡ block_count (map thing_of ms)
+  total_is = counted_is ms p.each
+
+  pub total_few : counted ms ≤ most_runs * length ms
+  total_few = counted_few ms p.each
+
+-- ---- one beside others, by the number of blocks that its runs are
+
+pub all_placed : (s : Size) (ms : List Item) → AllWhole ms → All (ThingFits s) (map thing_of ms) → AllPlaced ms
+all_placed s ms w f = record { few = w.few; each = both_placed s ms w.each f }
+
+-- those before i
+pub front_placed : (s : Size) (ms : List Item) (i : ℕ) → AllWhole ms → All (ThingFits s) (things_of i ms) → AllPlaced (take i ms)
+front_placed s ms i w =
+    all_placed s (take i ms) (record { few = omega (arith, w.few, length-take i ms); each = all_take Whole i ms w.each })
+
+module _ (s : Size) (ms : List Item) (m : Item) (w : Whole m) where
+  blocks_are : ThingFits s (thing_of m) → block_number m.runs ≡ length (areas (thing_of m))
+  blocks_are f = number_is m (record { whole = w; size = s; fits = f })
+
+  pub beside_said : {r : Bool}
+      → Says r (ThingFits s (thing_of m) × (block_count (map thing_of ms) + block_number m.runs ≤ most_blocks) × All (Apart s.clearance (thing_of m)) (map thing_of ms))
+      → Says r (Joins s (map thing_of ms) (thing_of m))
+  beside_said =
+      says_as (λ p. record { fits = p.0; apart = p.2; blocks_few = omega (arith, p.1, blocks_are p.0) })
+      (λ j. (j.fits, omega (arith, j.blocks_few, blocks_are j.fits), j.apart))
 
 -- ---- item by item, each held against those before it
 
@@ -86,24 +105,30 @@ pub fits_none : (s : Size) → ItemsApart s []
 unfolding All Pairs block_count
 fits_none s = record { rising = tt; each = tt; apart = tt; blocks_few = omega arith }
 
-module _ (ms : List Item) (long : length ms ≡ most_blocks) (d : Item) (n i : ℕ) (few : n ≤ most_blocks) (h : i < n) (s : Size) (last : ℕ) where
-  split : ItemsApart s (things_of n ms) → ItemsApart s (things_of i ms ++ thing_of (get_or ms i d) ∷ map thing_of (drop (suc i) (take n ms)))
-  split f = subst (ItemsApart s) (things_split ms long d n i few h) f
+module _ (ms : List Item) (w : AllWhole ms) (d : Item) (i : ℕ) (h : i < length ms) (s : Size) where
+  things_more : things_of (i + 1) ms ≡ things_of i ms ++ thing_of (get_or ms i d) ∷ []
+  things_more = ap (λ k. things_of k ms) (add-one i) ∙ ap (map thing_of) (take-suc ms i d h) ∙ rw map-append
 
-  pub fits_stop : Tops last (things_of i ms) → (get_or ms i d).id ≤ last → Says false (ItemsApart s (things_of n ms))
-  fits_stop p l =
-      let k : id_of (thing_of (get_or ms i d)) ≤ last = omega (arith, thing_id (get_or ms i d)) in
-      says_never (λ f. tops_stop last (things_of i ms) (thing_of (get_or ms i d)) p s _ k (split f))
+  split : ItemsApart s (map thing_of ms) → ItemsApart s (things_of i ms ++ thing_of (get_or ms i d) ∷ map thing_of (drop (suc i) ms))
+  split f = subst (ItemsApart s) (ap (map thing_of) (split_at ms i d h) ∙ rw map-append) f
 
-  pub fits_not : ¬ (Joins s (things_of i ms) (thing_of (get_or ms i d))) → Says false (ItemsApart s (things_of n ms))
+  pub front_at : Whole (get_or ms i d)
+  front_at = all_at Whole d ms i h w.each
+
+  pub fits_not : ¬ (Joins s (things_of i ms) (thing_of (get_or ms i d))) → Says false (ItemsApart s (map thing_of ms))
   fits_not j = says_never (λ f. j (fits_joins s (things_of i ms) (thing_of (get_or ms i d)) _ (split f)))
 
-  pub fits_next : ItemsApart s (things_of i ms) → Tops last (things_of i ms) → last < (get_or ms i d).id
-      → Joins s (things_of i ms) (thing_of (get_or ms i d)) → ItemsApart s (things_of (i + 1) ms) × Tops (get_or ms i d).id (things_of (i + 1) ms)
-  fits_next f p l j =
-      let t = thing_of (get_or ms i d) in
-      let k : last < id_of t = omega (arith, thing_id (get_or ms i d)) in
-      let e = sym (things_more ms long d n i few h) in (
-        subst (ItemsApart s) e (fits_more s (things_of i ms) t f (tops_lower last (things_of i ms) t p k) j),
-        subst₂ Tops (thing_id (get_or ms i d)) e (tops_more last (things_of i ms) t p k),
-      )
+  module _ (last : ℕ) (p : Tops last (things_of i ms)) where
+    pub fits_stop : (get_or ms i d).id ≤ last → Says false (ItemsApart s (map thing_of ms))
+    fits_stop l =
+        let k : id_of (thing_of (get_or ms i d)) ≤ last = omega (arith, thing_id (get_or ms i d)) in
+        says_never (λ f. tops_stop last (things_of i ms) (thing_of (get_or ms i d)) p s _ k (split f))
+
+    pub fits_next : ItemsApart s (things_of i ms) → last < (get_or ms i d).id
+        → Joins s (things_of i ms) (thing_of (get_or ms i d)) → ItemsApart s (things_of (i + 1) ms) × Tops (get_or ms i d).id (things_of (i + 1) ms)
+    fits_next f l j =
+        let t = thing_of (get_or ms i d) in
+        let k : last < id_of t = omega (arith, thing_id (get_or ms i d)) in (
+          subst (ItemsApart s) (sym things_more) (fits_more s (things_of i ms) t f (tops_lower last (things_of i ms) t p k) j),
+          subst₂ Tops (thing_id (get_or ms i d)) (sym things_more) (tops_more last (things_of i ms) t p k),
+        )

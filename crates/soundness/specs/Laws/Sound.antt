@@ -1,22 +1,26 @@
 -- A board that stands is well formed just if what is read back from it is sound.
 -- Assumes nothing.
-use Rattle.std.specs.Prelude.{◌≡◌, length, take}
+use Rattle.std.specs.Prelude.{◌≡◌, ◌⊎◌, Bool, length, take}
 use Rattle.std.proofs.Math.Path.{refl}
-use Rattle.std.proofs.Common.{ap, ◌∙◌, inl, inr}
+use Rattle.std.proofs.Common.{ap, sym, ◌∙◌, inl, inr}
 use Rattle.std.proofs.Math.Logic.{⊎_elim}
 use mathlib.Core.List.{map, reverse}
 use Rattle.paper.specs.declared.Board.{Board}
-use Rattle.paper.specs.Layout.{InRange, ItemsFit, Undoes, no_bounds, fresh, Laid, Sound}
+use Rattle.paper.specs.Layout.{no_bounds, fresh, Laid, Sound}
 use Rattle.paper.specs.Padding.{WellFormed}
 use Rattle.paper.specs.Laws.Back.{thing_of, turn_of, layout_of, well_formed}
-use Rattle.paper.specs.Laws.Standing.{Standing, count_is, kept_is}
+use Rattle.paper.specs.Laws.Says.{Says, says_as}
+use Rattle.paper.specs.Laws.Standing.{Standing, count_is, kept_is, well_standing}
 
-module _ (b : Board) (s : Standing b) where
-  -- no bounds, and nothing there
-  abbrev pub Unused : Type 0
-  Unused = (b.size ≡ no_bounds) × (b.count ≡ 0) × (b.kept ≡ 0)
+-- no bounds, and nothing there
+abbrev pub Unused : Board → Type 0
+Unused b = (b.size ≡ no_bounds) × (b.count ≡ 0) × (b.kept ≡ 0)
 
-  unused_fresh : Unused → layout_of b ≡ fresh
+module _ (b : Board) where
+  sized : (layout_of b).size ≡ b.size
+  sized = unfold layout_of in refl
+
+  unused_fresh : Unused b → layout_of b ≡ fresh
   unfolding layout_of
   unused_fresh u = λ i. record {
     size = u.0 i;
@@ -24,46 +28,15 @@ module _ (b : Board) (s : Standing b) where
     kept = reverse (map turn_of (take (u.2 i) b.changes));
   }
 
-  fresh_unused : layout_of b ≡ fresh → Unused
-  fresh_unused e = (
-    sized ∙ ap (λ l. l.size) e,
+  fresh_unused : Standing b → layout_of b ≡ fresh → Unused b
+  fresh_unused s e = (
+    sym sized ∙ ap (λ l. l.size) e,
     count_is b s ∙ ap (λ l. length l.items) e,
     kept_is b s ∙ ap (λ l. length l.kept) e,
   )
-    where
-      sized : b.size ≡ (layout_of b).size
-      sized = unfold layout_of in refl
 
-  of_sound : Sound (layout_of b) → WellFormed b
-  unfolding WellFormed
-  of_sound p = (layout_of b, record { sound = p; same = s.same })
-
-  pub well_unused : Unused → WellFormed b
-  unfolding Sound
-  well_unused u = of_sound (inl (unused_fresh u))
-
-  laid : InRange b.size → ItemsFit b.size (layout_of b).items → Undoes b.size (layout_of b).items (layout_of b).kept → Laid (layout_of b)
-  unfolding layout_of
-  laid r f u = record { range = r; fits = f; kept_few = s.kept_few; undoes = u }
-
-  pub well_laid : InRange b.size → ItemsFit b.size (layout_of b).items → Undoes b.size (layout_of b).items (layout_of b).kept → WellFormed b
-  unfolding Sound
-  well_laid r f u = of_sound (inr (laid r f u))
-
-  -- what a well-formed board is, where there are bounds
-  module _ (n : ¬ Unused) (w : WellFormed b) where
-    laid_of : Laid (layout_of b)
-    unfolding Sound
-    laid_of = ⊎_elim (λ e. absurd (n (fresh_unused e))) (λ p. p) (well_formed b w).sound
-
-    pub range_of : InRange b.size
-    unfolding layout_of
-    range_of = laid_of.range
-
-    pub fits_of : ItemsFit b.size (layout_of b).items
-    unfolding layout_of
-    fits_of = laid_of.fits
-
-    pub undoes_of : Undoes b.size (layout_of b).items (layout_of b).kept
-    unfolding layout_of
-    undoes_of = laid_of.undoes
+  pub sound_said : {r : Bool} → Says r (Standing b × (Unused b ⊎ Laid (layout_of b))) → Says r (WellFormed b)
+  unfolding WellFormed Sound
+  sound_said =
+      says_as (λ p. (layout_of b, record { sound = ⊎_elim (λ u. inl (unused_fresh u)) inr p.1; same = p.0.same }))
+      (λ w. let s = well_standing b w in (s, ⊎_elim (λ e. inl (fresh_unused s e)) inr (well_formed b w).sound))

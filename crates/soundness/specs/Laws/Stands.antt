@@ -1,12 +1,11 @@
 -- A board stands just if its counts are within the arrays, and the arrays hold so many and nothing else.
 -- Assumes nothing.
-use Rattle.std.specs.Prelude.{ℕ, ◌-◌, ◌≤◌, ◌≡◌, refl, Bool, take, replicate}
+use Rattle.std.specs.Prelude.{ℕ, ◌≤◌, ◌≡◌, refl, Bool, take}
 use Rattle.std.proofs.Common.{arith, ◌∙◌, length-take-le}
 use Rattle.std.proofs.Math.Path.{sym, ap}
 use mathlib.Core.List.{List, [], ◌∷◌, map, reverse, reverse-reverse, head-eq_of_cons-eq, tail-eq_of_cons-eq}
-use Rattle.std.proofs.Math.ListN.{length}
+use Rattle.std.proofs.Math.ListN.{length, length-take}
 use Rattle.std.proofs.lemmas.List.{length-map, length-reverse}
-use Rattle.std.proofs.Math.Seq.{take_at}
 use Rattle.paper.specs.declared.Board.{Board}
 use Rattle.paper.specs.Limits.{most_blocks, most_kept}
 use Rattle.paper.specs.Grid.{All}
@@ -17,6 +16,7 @@ use Rattle.paper.specs.Laws.Says.{Says, says_as}
 use Rattle.paper.specs.Laws.Standing.{Standing, count_is, kept_is}
 use Rattle.soundness.specs.Shape.{Slots}
 use Rattle.soundness.specs.Joining.{AllWhole}
+use Rattle.soundness.specs.Laws.Places.{slots_front}
 
 -- ---- an array
 
@@ -34,14 +34,8 @@ module _ {A B : Type 0} (f : A → B) (g : B → A) (z : B) (m n : ℕ) (xs : Li
   front_long : length (map g (take n xs)) ≡ n
   front_long = length-map (take n xs) g ∙ length-take-le n xs (omega arith)
 
-  front_is : Slots f g z m n xs → take n xs ≡ map f (map g (take n xs))
-  unfolding Slots
-  front_is s =
-      let ts = map g (take n xs) in
-      ap (take n) s ∙ take_at (map f ts) (replicate (m - length (map f ts)) z) n (length-map ts f ∙ front_long)
-
   slots_back : Slots f g z m n xs → All (λ t. g (f t) ≡ t) (map g (take n xs))
-  slots_back s = all_back f g (map g (take n xs)) (ap (map g) (sym (front_is s)))
+  slots_back s = all_back f g (map g (take n xs)) (ap (map g) (sym (slots_front f g z m n xs long few s)))
 
 -- ---- the board
 
@@ -61,11 +55,18 @@ module _ (b : Board) (li : length b.items ≡ most_blocks) (lc : length b.change
   unfolding Slots board_of layout_of
   stands_changes s = ap (λ b. b.changes) s.same ∙ rw (reverse-reverse (map turn_of (take b.kept b.changes)))
 
-  pub stands_whole : Standing b → AllWhole b.count b.items
+  pub stands_whole : Standing b → AllWhole (take b.count b.items)
   stands_whole s = record {
-    few = count_few b s;
-    each = all_same item_of thing_of _ (front_is item_of thing_of no_item most_blocks b.count b.items li (count_few b s) (stands_items s));
+    few = omega (arith, count_few b s, length-take b.count b.items);
+    each = all_same item_of thing_of _ (slots_front item_of thing_of no_item most_blocks b.count b.items li (count_few b s) (stands_items s));
   }
+
+  -- what is asked of the array of items, of the array of changes
+  abbrev pub ItemSlots : Type 0
+  ItemSlots = Slots item_of thing_of no_item most_blocks b.count b.items
+
+  abbrev pub ChangeSlots : Type 0
+  ChangeSlots = Slots change_of turn_of no_change most_kept b.kept b.changes
 
   module _ (n : b.count ≤ most_blocks) (k : b.kept ≤ most_kept) where
     items_long : length (map thing_of (take b.count b.items)) ≡ b.count
@@ -76,8 +77,7 @@ module _ (b : Board) (li : length b.items ≡ most_blocks) (lc : length b.change
         length-reverse (map turn_of (take b.kept b.changes))
         ∙ front_long change_of turn_of no_change most_kept b.kept b.changes lc k
 
-    standing_of : Slots item_of thing_of no_item most_blocks b.count b.items → Slots change_of turn_of no_change most_kept b.kept b.changes
-        → Standing b
+    standing_of : ItemSlots → ChangeSlots → Standing b
     unfolding Slots board_of layout_of
     standing_of p q =
         let cs = map turn_of (take b.kept b.changes) in
@@ -90,9 +90,6 @@ module _ (b : Board) (li : length b.items ≡ most_blocks) (lc : length b.change
           kept_back = all_reverse TurnsBack cs (slots_back change_of turn_of no_change most_kept b.kept b.changes lc k q);
         }
 
-    pub stands_said : (r : Bool) → Slots item_of thing_of no_item most_blocks b.count b.items
-        → Says r (Slots change_of turn_of no_change most_kept b.kept b.changes) → Says r (Standing b)
-    stands_said r p = says_as (standing_of p) stands_changes
-
-  pub not_items : ¬ (Slots item_of thing_of no_item most_blocks b.count b.items) → ¬ (Standing b)
-  not_items n s = n (stands_items s)
+  pub stands_said : {r : Bool} → Says r ((b.count ≤ most_blocks) × (b.kept ≤ most_kept) × ItemSlots × ChangeSlots) → Says r (Standing b)
+  stands_said =
+      says_as (λ p. standing_of p.0 p.1 p.2 p.3) (λ s. (count_few b s, kept_few b s, stands_items s, stands_changes s))

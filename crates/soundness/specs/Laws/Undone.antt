@@ -15,6 +15,7 @@ use Rattle.paper.specs.Laws.Back.{layout_of, ReadsBack, TurnsBack, thing_back, b
 use Rattle.paper.specs.Laws.Shape.{items_few}
 use Rattle.paper.specs.Laws.Says.{Says, says_always, says_never, said, said_not}
 use Rattle.paper.specs.Laws.Standing.{Standing, standing, kept_is}
+use Rattle.items.specs.Items.{Undone}
 use Rattle.items.specs.Laws.Accepted.{some_latest}
 use Rattle.soundness.specs.Undoing.{GoesBack}
 
@@ -106,27 +107,43 @@ module _ (a b : Board) (p : Left a b) where
       unfolding next
       seamless_board = let l = ap (λ n. n.items) next_is in (λ z. subst Seamless l z, λ z. subst Seamless (sym l) z)
 
-      module _ (d : Board) (x : d ≡ board_of (record { size = b.size; items = undo c (layout_of b).items; kept = cs })) where
+      module _ (d : Board) (x : d ≡ board_of next) where
         items_same : Seamless (layout_of d).items ↔ Seamless (undo c (layout_of b).items)
-        unfolding next
         items_same = subst (λ d. Seamless (layout_of d).items ↔ Seamless (undo c (layout_of b).items)) (sym x) seamless_board
 
-        -- before the wires are looked at
-        pub left_apart : Standing d × ItemsApart d.size (layout_of d).items
-        unfolding next
-        left_apart = (subst Standing (sym x) standing_next, subst (λ d. ItemsApart d.size (layout_of d).items) (sym x) apart_board)
+        apart_here : Standing d × ItemsApart d.size (layout_of d).items
+        apart_here = (subst Standing (sym x) standing_next, subst (λ d. ItemsApart d.size (layout_of d).items) (sym x) apart_board)
 
-        pub left_seamed : ¬ (Seamless (layout_of d).items) → Says false (InTurn a)
+        seamed_here : ¬ (Seamless (layout_of d).items) → Says false (InTurn a)
         unfolding Undoes
-        left_seamed n =
+        seamed_here n =
             says_never (λ u. let v : Undoes b.size (layout_of b).items (c ∷ cs) = subst (Undoes b.size (layout_of b).items) q (p.same.0 u) in
             n (items_same.1 v.1.seamless))
 
-        pub left_fewer : d.kept < b.kept
-        left_fewer =
+        fewer_here : d.kept < b.kept
+        unfolding next
+        fewer_here =
             let k : d.kept ≡ length cs = ap (λ d. d.kept) x ∙ (unfold board_of in refl) in
             omega (arith, kept_is b p.stands, ap length q)
 
-        pub left_next : Seamless (layout_of d).items → Left a d
-        unfolding next
-        left_next z = subst (Left a) (sym x) (left_board (items_same.0 z))
+        next_here : Seamless (layout_of d).items → Left a d
+        next_here z = subst (Left a) (sym x) (left_board (items_same.0 z))
+
+    -- the board that is left once the change is undone
+    module _ (e : r ≡ true) (d : Board) (u : Undone (layout_of b) d) where
+      -- before the wires are looked at
+      pub left_apart : Standing d × ItemsApart d.size (layout_of d).items
+      unfolding Undone layout_of next
+      left_apart = apart_here e u.0 u.1 u.2 d u.3
+
+      pub left_seamed : ¬ (Seamless (layout_of d).items) → Says false (InTurn a)
+      unfolding Undone layout_of next
+      left_seamed = seamed_here e u.0 u.1 u.2 d u.3
+
+      pub left_fewer : d.kept < b.kept
+      unfolding Undone layout_of next
+      left_fewer = fewer_here e u.0 u.1 u.2 d u.3
+
+      pub left_next : Seamless (layout_of d).items → Left a d
+      unfolding Undone layout_of next
+      left_next = next_here e u.0 u.1 u.2 d u.3

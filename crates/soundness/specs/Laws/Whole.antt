@@ -1,25 +1,24 @@
 -- An item has nothing in unused places just if its numbers from the last corner on are zeros.
 -- Assumes nothing.
-use Rattle.std.specs.Prelude.{ℕ, ◌+◌, ◌-◌, ◌≤◌, ◌≡◌, refl, Bool, true, false, List, [], ◌∷◌, map, get_or, eqb}
+use Rattle.std.specs.Prelude.{◌⊎◌, ℕ, ◌+◌, ◌-◌, ◌≤◌, ◌≡◌, refl, Bool, List, [], ◌∷◌, map, get_or}
 use native.Mathlib.Omega.{arith}
 use Rattle.std.proofs.Math.Path.{sym, ap}
-use Rattle.std.proofs.Common.{◌∙◌, eq-eqb, ne_eqb}
+use Rattle.std.proofs.Common.{◌∙◌, inl, inr, eq-eqb, ne_eqb}
 use Rattle.std.proofs.Math.Bool.{cond}
 use Rattle.std.proofs.Math.Logic.{⊎_elim}
 use Rattle.std.proofs.Math.ListN.{length, take, length-take}
 use Rattle.std.proofs.Math.Seq.{length-take-le}
 use Rattle.paper.specs.declared.Item.{Item}
-use Rattle.paper.specs.declared.Rect.{Rect}
 use Rattle.paper.specs.declared.Change.{Change}
 use Rattle.paper.specs.Limits.{most_corners}
-use Rattle.paper.specs.Grid.{Node}
 use Rattle.paper.specs.Layout.{keep_out, wire, added, taken}
-use Rattle.paper.specs.Padding.{filled, item_of, no_item, added_kind, change_of}
+use Rattle.paper.specs.Padding.{filled, item_of, change_of}
 use Rattle.paper.specs.Laws.Back.{nodes, length_nodes, thing_of, turn_of}
 use Rattle.paper.specs.Laws.Among.{lt_cases, eq_cases}
-use Rattle.paper.specs.Laws.Says.{Says, says_as, says_never}
-use Rattle.items.specs.Items.{Whole, WholeChange}
+use Rattle.paper.specs.Laws.Says.{Says, says_as}
+use Rattle.items.specs.Items.{Whole, WholeChange, kind_for}
 use Rattle.soundness.specs.Shape.{ZeroFrom}
+use Rattle.items.specs.Laws.Changes.{kind_is}
 use Rattle.shapes.specs.Corners.{corners_of}
 use Rattle.soundness.specs.Fitting.{rect_of}
 use Rattle.soundness.specs.Laws.Places.{zeros_filled, filled_zeros}
@@ -115,32 +114,7 @@ module _ (m : Item) (lx : length m.xs ≡ most_corners) (ly : length m.ys ≡ mo
             length-take (m.runs + 1) m.xs,
           )
 
-  -- ---- a place that holds no item
-
-  pub blank_said : (r : Bool) → m.id ≡ 0 → m.runs ≡ 0 → Says r (ZeroFrom 0 m.xs × ZeroFrom 0 m.ys) → Says r (m ≡ no_item)
-  blank_said r e f =
-      says_as
-      (λ z i. record {
-        id = e i;
-        runs = f i;
-        xs = zeros_filled m.xs 0 most_corners lx (omega arith) z.0 i;
-        ys = zeros_filled m.ys 0 most_corners ly (omega arith) z.1 i;
-      })
-      (λ w. (
-        filled_zeros m.xs 0 most_corners lx (omega arith) (ap (λ m. m.xs) w),
-        filled_zeros m.ys 0 most_corners ly (omega arith) (ap (λ m. m.ys) w),
-      ))
-
 -- ---- changes
-
-added_kind_lem : (b : Bool) (i : ℕ) (r : Rect) (ps : List Node) → added_kind (cond b (keep_out i r) (wire i ps)) ≡ cond b 2 3
-unfolding added_kind
-added_kind_lem true i r ps = refl
-added_kind_lem false i r ps = refl
-
-kind_is : (m : Item) → added_kind (thing_of m) ≡ cond (eqb m.runs 0) 2 3
-unfolding thing_of
-kind_is m = added_kind_lem (eqb m.runs 0) m.id (rect_of m) (corners_of m (m.runs + 1))
 
 module _ (c : Change) where
   pub turn_taken : c.kind ≡ 5 → turn_of c ≡ taken (thing_of c.item)
@@ -151,24 +125,27 @@ module _ (c : Change) where
   unfolding turn_of
   turn_added n = ap (λ b. cond b (taken (thing_of c.item)) (added (thing_of c.item))) (ne_eqb c.kind 5 n)
 
-  pub change_taken : (r : Bool) → c.kind ≡ 5 → Says r (Whole c.item) → Says r (WholeChange c)
+  change_taken : c.kind ≡ 5 → Whole c.item → WholeChange c
   unfolding change_of
-  change_taken r e =
-      says_as (λ w. (λ i. record { kind = e i; item = w i }) ∙ sym (ap change_of (turn_taken e)))
-      (λ w. ap (λ c. c.item) (w ∙ ap change_of (turn_taken e)))
+  change_taken e w = (λ i. record { kind = e i; item = w i }) ∙ sym (ap change_of (turn_taken e))
 
-  pub change_added : (r : Bool) → ¬ (c.kind ≡ 5) → c.kind ≡ cond (eqb c.item.runs 0) 2 3 → Says r (Whole c.item) → Says r (WholeChange c)
+  change_added : ¬ (c.kind ≡ 5) → c.kind ≡ kind_for c.item.runs → Whole c.item → WholeChange c
   unfolding change_of
-  change_added r n e =
-      says_as (λ w. (λ i. record { kind = (e ∙ sym (kind_is c.item)) i; item = w i }) ∙ sym (ap change_of (turn_added n)))
-      (λ w. ap (λ c. c.item) (w ∙ ap change_of (turn_added n)))
+  change_added n e w = (λ i. record { kind = (e ∙ sym (kind_is c.item)) i; item = w i }) ∙ sym (ap change_of (turn_added n))
 
-  pub change_other : ¬ (c.kind ≡ 5) → ¬ (c.kind ≡ cond (eqb c.item.runs 0) 2 3) → Says false (WholeChange c)
+  added_alone : ¬ (c.kind ≡ 5) → WholeChange c → c.kind ≡ kind_for c.item.runs
   unfolding change_of
-  change_other n k = says_never (λ w. k (ap (λ c. c.kind) (w ∙ ap change_of (turn_added n)) ∙ kind_is c.item))
+  added_alone n w = ap (λ c. c.kind) (w ∙ ap change_of (turn_added n)) ∙ kind_is c.item
 
   pub change_whole : WholeChange c → Whole c.item
   unfolding change_of
   change_whole w =
       ⊎_elim (λ e. ap (λ c. c.item) (w ∙ ap change_of (turn_taken e.0))) (λ e. ap (λ c. c.item) (w ∙ ap change_of (turn_added e.0)))
       (eq_cases c.kind 5)
+
+  -- it is of one of the two kinds, and its item is whole
+  pub change_said : {r : Bool} → Says r (((c.kind ≡ 5) ⊎ (c.kind ≡ kind_for c.item.runs)) × Whole c.item) → Says r (WholeChange c)
+  change_said =
+      says_as
+      (λ p. ⊎_elim (λ e. change_taken e.0 p.1) (λ n. change_added n.0 (⊎_elim (λ e. absurd (n.0 e)) (λ e. e) p.0) p.1) (eq_cases c.kind 5))
+      (λ w. (⊎_elim (λ e. inl e.0) (λ n. inr (added_alone n.0 w)) (eq_cases c.kind 5), change_whole w))

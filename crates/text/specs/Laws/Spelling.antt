@@ -1,6 +1,6 @@
 -- Parts spell one text, and texts one after another spell the parts one after another.
 -- Assumes nothing.
-use Rattle.std.specs.Prelude.{ℕ, ◌≡◌, refl, List, [], ◌∷◌, ◌++◌}
+use Rattle.std.specs.Prelude.{ℕ, ◌≡◌, refl, List, [], ◌∷◌, ◌++◌, map}
 use Rattle.std.proofs.Common.{arith, sym, ap, ap₂, subst, ◌∙◌, append_assoc, append-nil}
 use Rattle.text.specs.Text.{Decimal, Part, number, byte, Spells}
 use Rattle.text.specs.Laws.Decimal.{one_decimal, digits_of, digits_decimal}
@@ -34,6 +34,11 @@ spells_join (byte c ∷ ps) qs a b p q = (p.0 ++ b, ap (λ r. r ++ b) p.1, spell
 pub spells_byte : (b : ℕ) → Spells (byte b ∷ []) (b ∷ [])
 unfolding Spells
 spells_byte b = ([], refl, refl)
+
+pub spells_bytes : (bs : List ℕ) → Spells (map byte bs) bs
+unfolding Spells
+spells_bytes [] = refl
+spells_bytes (b ∷ bs) = (bs, refl, spells_bytes bs)
 
 pub spells_number : {n : ℕ} {ds : List ℕ} → Decimal n ds → Spells (number n ∷ []) ds
 unfolding Spells

@@ -1,11 +1,13 @@
 -- What stands in a lent buffer: texts put one after another, how far they reach, and a number digit by digit.
 -- Assumes nothing.
-use Rattle.std.specs.Prelude.{ℕ, suc, ◌+◌, ◌*◌, ◌/◌, ◌%◌, ◌≤◌, ◌<◌, ◌≡◌, refl, List, [], ◌∷◌, ◌++◌, length, take, drop, set, replicate}
+use Rattle.std.specs.Prelude.{ℕ, suc, ◌+◌, ◌*◌, ◌/◌, ◌%◌, ◌≤◌, ◌<◌, ◌≡◌, refl, List, [], ◌∷◌, ◌++◌, length, take, drop, set, replicate, map, ◌^◌}
 use Rattle.std.proofs.Common.{add-one, arith, sym, ap, ap₂, subst, ◌∙◌, append_assoc, append-nil, length-append, length-take, length-drop, take-append-drop, take_at, drop_at, drop-drop, length-take-le}
 use Rattle.std.proofs.lemmas.List.{drop-append-le, set_split}
+use Rattle.std.specs.Fmt.{decimal}
+use Rattle.std.proofs.lemmas.Fmt.{decimal_by_steps}
 use Rattle.text.specs.Text.{read_on, Decimal, Part, number, byte, Spells, Puts, Writes}
 use Rattle.text.specs.Laws.Decimal.{decimal_short, decimal_one, decimal_more}
-use Rattle.text.specs.Laws.Spelling.{one_spelling, spells_join, spells_byte, spells_number, number_spelled}
+use Rattle.text.specs.Laws.Spelling.{one_spelling, spells_join, spells_byte, spells_bytes, spells_number, number_spelled}
 
 pub puts_length : {bs b b' : List ℕ} {at r : ℕ} → Puts bs b at b' r → length b' ≡ length b
 puts_length {bs} {b} {b'} {at} {r} p =
@@ -139,35 +141,42 @@ module _ {n : ℕ} {b b' : List ℕ} {at r : ℕ} (w : Writes (number n ∷ []) 
   unfolding read_on
   five_digits l = number_reach 5 (omega arith) w l
 
-  pub nine_digits : n ≤ 999999999 → Reaches 9 (number n ∷ []) b at b' r
-  unfolding read_on
-  nine_digits l = number_reach 9 (omega arith) w l
-
   pub ten_digits : n ≤ 9999999999 → Reaches 10 (number n ∷ []) b at b' r
   unfolding read_on
   ten_digits l = number_reach 10 (omega arith) w l
 
--- ---- a number written digit by digit
-
-pub writes_digit : {n d : ℕ} {b b' : List ℕ} {at r : ℕ} → n < 10 → d ≡ 48 + n → Writes (byte d ∷ []) b at b' r → Writes (number n ∷ []) b at b' r
+-- the same after a byte
+next_reach : (k : ℕ) {c n : ℕ} {b b' : List ℕ} {at r : ℕ} → 1 ≤ k → Writes (byte c ∷ number n ∷ []) b at b' r → n ≤ read_on 0 (replicate k 57)
+    → Reaches (1 + k) (byte c ∷ number n ∷ []) b at b' r
 unfolding Spells
-writes_digit {n} {d} h e w = record {
-  bytes = w.bytes;
-  spelled = spells_number (subst (Decimal n) (sym (w.spelled.1 ∙ ap₂ ◌∷◌ e w.spelled.2)) (decimal_one n h));
-  put = w.put;
-}
+next_reach k h w l = reaches w (omega (arith, w.put.next, ap length w.spelled.1, decimal_short k h l (number_spelled w.spelled.2)))
 
-pub writes_digits : {n d : ℕ} {b b₁ b₂ : List ℕ} {at r₁ r₂ : ℕ} → 10 ≤ n → d ≡ 48 + n % 10
-    → Writes (number (n / 10) ∷ []) b at b₁ r₁ → Writes (byte d ∷ []) b₁ r₁ b₂ r₂ → Writes (number n ∷ []) b at b₂ r₂
-unfolding Spells
-writes_digits {n} {d} h e v w = record {
-  bytes = v.bytes ++ w.bytes;
-  spelled = spells_number (subst (λ ds. Decimal n (v.bytes ++ ds)) (sym (w.spelled.1 ∙ ap₂ ◌∷◌ e w.spelled.2)) whole);
-  put = puts_join v.put w.put;
+module _ {c n : ℕ} {b b' : List ℕ} {at r : ℕ} (w : Writes (byte c ∷ number n ∷ []) b at b' r) where
+  pub next_three : n ≤ 999 → Reaches 4 (byte c ∷ number n ∷ []) b at b' r
+  unfolding read_on
+  next_three l = next_reach 3 (omega arith) w l
+
+  pub next_five : n ≤ 99999 → Reaches 6 (byte c ∷ number n ∷ []) b at b' r
+  unfolding read_on
+  next_five l = next_reach 5 (omega arith) w l
+
+  pub next_ten : n ≤ 9999999999 → Reaches 11 (byte c ∷ number n ∷ []) b at b' r
+  unfolding read_on
+  next_ten l = next_reach 10 (omega arith) w l
+
+-- ---- a number, and a line
+
+pub writes_number : (n : ℕ) {b b' : List ℕ} {at r : ℕ} → n < 2 ^ 64 → Puts (decimal n) b at b' r → Writes (number n ∷ []) b at b' r
+writes_number n h p = record {
+  bytes = decimal n;
+  spelled = spells_number (decimal_by_steps Decimal decimal_one more n h);
+  put = p;
 }
   where
-    whole : Decimal n (v.bytes ++ (48 + n % 10) ∷ [])
-    whole =
+    more : (n : ℕ) (ds : List ℕ) → 10 ≤ n → Decimal (n / 10) ds → Decimal n (ds ++ (48 + n % 10) ∷ [])
+    more n ds l d =
         let s : 10 * (n / 10) + n % 10 ≡ n = omega arith in
-        subst (λ m. Decimal m (v.bytes ++ (48 + n % 10) ∷ [])) s
-        (decimal_more (n / 10) (n % 10) v.bytes (omega arith) (omega arith) (number_spelled v.spelled))
+        subst (λ m. Decimal m (ds ++ (48 + n % 10) ∷ [])) s (decimal_more (n / 10) (n % 10) ds (omega arith) (omega arith) d)
+
+pub writes_line : {w b b₁ b₂ : List ℕ} {at r₁ r₂ : ℕ} → Puts w b at b₁ r₁ → Writes (byte 10 ∷ []) b₁ r₁ b₂ r₂ → Writes (map byte w ++ byte 10 ∷ []) b at b₂ r₂
+writes_line {w} p v = writes_join (record { bytes = w; spelled = spells_bytes w; put = p }) v

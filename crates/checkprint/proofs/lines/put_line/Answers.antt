@@ -21,4 +21,5 @@ put_byte-requires c =
 
 pub returns : goal.returns
 returns c =
-    writes_join (writes_join (writes_join c.put_number-first.ensures c.put_next-coded.ensures.0) c.put_told-told.ensures.0) c.put_byte.ensures
+    let coded = rw c.from.ensures at c.put_next-coded.ensures.0 in
+    writes_join (writes_join (writes_join c.put_number-first.ensures coded) c.put_told-told.ensures.0) c.put_byte.ensures

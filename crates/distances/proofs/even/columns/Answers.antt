@@ -1,34 +1,15 @@
--- `distances::even::columns` meets its contract: the ways up from the first j rows are even.
-use Prim.Native.Nat.{◌-◌, ◌+◌}
-use Rattle.distances.specs.Even.{if_no, if_yes, slim_alike, columns_start, columns_more, columns_end}
-use native.Mathlib.Omega.{arith}
+-- `distances::even::columns` meets its contract: the ways up from each row are even.
+use Rattle.std.proofs.Common.{rules, tests, arith, refl, ℕ, ◌-◌, ◌≡◌}
+use Rattle.std.proofs.lemmas.Bool.{MatchBool-at_true}
+use Rattle.std.proofs.lemmas.Iterator.{cases_from_all, YieldsList-from_range}
+use Rattle.distances.specs.Even.{UprightRow, each_below}
 use Rattle.distances.proofs.even.columns.Goals as goal
 
-pub loop-j-init : goal.loop-j-init
-loop-j-init c = (omega arith, columns_start _ _ _ _ _)
-
-pub width-requires : goal.width-requires
-width-requires c =
-    let p = c.requires in
-    (omega (arith, p.2), omega (arith, p.3.rise c.loop-j.j (omega arith)))
-
-pub row-requires : goal.row-requires
-row-requires c =
-    let g = c.args in
-    let p = c.requires in (
-      p.0,
-      p.1,
-      omega (arith, p.1, p.2),
-      rw c.alike-w.ensures (slim_alike g.ys.now c.loop-j.j g.nx (g.ny - 1) _ p.3 (omega arith) p.1 c.width.ensures),
-    )
-
-pub returns-then-not-row : goal.returns-then-not-row
-returns-then-not-row c = if_no
-
-pub loop-j-preserved : goal.loop-j-preserved
-loop-j-preserved c =
-    let row = rw c.alike-w.ensures at (c.row.ensures.so c.if-not-row.false) in
-    (omega (arith, c.requires.2), columns_more _ _ _ _ _ c.loop-j.j _ c.requires.1 c.width.ensures c.loop-j.invariant.1 row)
-
 pub returns : goal.returns
-returns c = let l = c.loop-j in if_yes (columns_end _ _ _ _ _ (l.j + 1) _ (omega arith) l.invariant.1)
+returns c = λ y.
+    let m = c.args.map.now in
+    let Even : ℕ → Type 0 = UprightRow c.args.d.now m.tall m.y.at m.x.count c.args.far in
+    let n : ℕ = m.y.count - 1 in
+    let long : n - 0 ≡ n = omega arith in
+    let all = cases_from_all _ _ _ Even (λ j. Unit {0}) c.all.ensures.ran (YieldsList-from_range 0 n n refl long) (λ x q k. search (rules, tests)) (λ x q k. tt) in
+    each_below Even n (MatchBool-at_true _ _ y all)

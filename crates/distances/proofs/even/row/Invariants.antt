@@ -1,10 +1,7 @@
 -- `distances::even::row` meets its contract: while the answer is yes the first k ways are even.
-use Prim.Native.Nat.{◌≤◌, ◌-◌}
-use Rattle.distances.specs.Even.{If, EvenRow}
+use Rattle.std.specs.Prelude.{◌≡◌, true}
+use Rattle.distances.specs.Even.{EvenRow}
 use Rattle.distances.proofs.even.row.Given as goal
 
 abbrev pub invariant-loop-k : goal.invariant-loop-k
-invariant-loop-k l = (l.k ≤ l.n) × If l.even (EvenRow l.d l.shut l.widths l.low l.apart l.k l.far)
-
-abbrev pub decreases-loop-k : goal.decreases-loop-k
-decreases-loop-k l = l.n - l.k
+invariant-loop-k l = l.even ≡ true → EvenRow l.d l.shut l.widths l.ways.low l.ways.apart l.k l.far

@@ -1,23 +1,15 @@
--- `distances::even::rows` meets its contract: the first j rows are even.
-use Rattle.distances.specs.Even.{if_no, if_yes, slim_widths, rows_start, rows_more, rows_end}
-use native.Mathlib.Omega.{arith}
+-- `distances::even::rows` meets its contract: each row is even.
+use Rattle.std.proofs.Common.{rules, tests, arith, refl, ℕ, ◌-◌, ◌≡◌}
+use Rattle.std.proofs.lemmas.Bool.{MatchBool-at_true}
+use Rattle.std.proofs.lemmas.Iterator.{cases_from_all, YieldsList-from_range}
+use Rattle.distances.specs.Even.{LevelRow, each_below}
 use Rattle.distances.proofs.even.rows.Goals as goal
 
-pub loop-j-init : goal.loop-j-init
-loop-j-init c = (omega arith, rows_start _ _ _ _ _)
-
-pub row-requires : goal.row-requires
-row-requires c =
-    let p = c.requires in
-    (p.0, omega (arith, p.2), omega (arith, p.1, p.2, p.3), slim_widths _ _ _ p.4 c.widths-w.ensures)
-
-pub returns-then-not-row : goal.returns-then-not-row
-returns-then-not-row c = if_no
-
-pub loop-j-preserved : goal.loop-j-preserved
-loop-j-preserved c =
-    let row = c.row.ensures.so c.if-not-row.false in
-    (omega arith, rows_more _ _ _ _ _ c.loop-j.j _ c.widths-w.ensures c.loop-j.invariant.1 row)
-
 pub returns : goal.returns
-returns c = let l = c.loop-j in if_yes (rows_end _ _ _ _ _ l.j _ (omega arith) l.invariant.1)
+returns c = λ y.
+    let m = c.args.map.now in
+    let Even : ℕ → Type 0 = LevelRow c.args.d.now m.flat m.x.at m.x.count c.args.far in
+    let n : ℕ = m.y.count in
+    let long : n - 0 ≡ n = omega arith in
+    let all = cases_from_all _ _ _ Even (λ j. Unit {0}) c.all.ensures.ran (YieldsList-from_range 0 n n refl long) (λ x q k. search (rules, tests)) (λ x q k. tt) in
+    each_below Even n (MatchBool-at_true _ _ y all)

@@ -3,7 +3,7 @@ use native.Mathlib.Omega.{arith}
 use Prim.Native.Nat.{ℕ, ◌≤◌, ◌+◌, ◌/◌}
 use mathlib.Core.Path.{◌≡◌, refl}
 use Rattle.std.specs.Prelude.{List}
-use lib.ListN.{length, length-set}
+use lib.ListN.{length}
 use Rattle.paper.specs.Drawn.{CountFits}
 use Rattle.drawn.specs.Laws.Numbers.{x_next, y_next, wire_whole}
 use Rattle.drawn.proofs.corners.wire_of.Goals as goal
@@ -15,14 +15,11 @@ half ns f = omega (arith, f.1, f.2, f.3)
 pub loop-k-preserved : goal.loop-k-preserved
 loop-k-preserved c =
     let h = half _ c.requires in (
-      omega arith,
-      x_next _ _ h.0 h.1 _ _ c.loop-k-test.true c.loop-k.invariant.1,
-      y_next _ _ h.0 h.1 _ _ c.loop-k-test.true c.loop-k.invariant.2,
-      simp length-set c.loop-k.invariant.3,
-      simp length-set c.loop-k.invariant.4,
+      x_next _ _ h.0 h.1 _ _ c.loop-k-test.true c.loop-k.invariant.0,
+      y_next _ _ h.0 h.1 _ _ c.loop-k-test.true c.loop-k.invariant.1,
     )
 
 pub returns : goal.returns
 returns c =
     let h = half _ c.requires in
-    wire_whole _ _ h.0 h.1 _ c.loop-k.k c.loop-k-test.false refl refl c.loop-k.invariant.1 c.loop-k.invariant.2
+    wire_whole _ _ h.0 h.1 _ c.loop-k.k c.loop-k-test.false refl refl c.loop-k.invariant.0 c.loop-k.invariant.1

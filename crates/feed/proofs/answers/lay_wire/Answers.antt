@@ -8,15 +8,15 @@ use Rattle.paper.specs.Laws.Back.{thing_of, layout_of}
 use Rattle.feed.specs.Feeding.{wired_reply, Lays}
 use Rattle.feed.proofs.answers.lay_wire.Goals as goal
 
-pub returns-then-w : goal.returns-then-w
+pub returns-then-found-w : goal.returns-then-found-w
 unfolding Lays
-returns-then-w c =
+returns-then-found-w c =
     let p = c.requires in
-    inl (omega (arith, p.two, c.if-w.true), c.told.ensures, refl)
+    inl (omega (arith, p.two, c.if-found-w.true), c.refused.ensures, refl)
 
 pub returns : goal.returns
 unfolding Lays
 returns c =
     let l = layout_of c.args.board in
-    let b = c.add_item-next.ensures ∙ ap (λ m. board_of (add_to l (thing_of m))) c.wire_item-item.ensures in
-    inr (omega (arith, c.requires.two, c.if-w.false), c.wire_reply.ensures ∙ ap (λ b. wired_reply b c.args.w) b, c.write.ensures)
+    let b = c.add_item-next.ensures ∙ ap (λ m. board_of (add_to l (thing_of m))) c.wire_item.ensures in
+    inr (omega (arith, c.requires.two, c.if-found-w.false), c.wire_reply.ensures ∙ ap (λ b. wired_reply b c.args.found.wire) b, c.write.ensures)

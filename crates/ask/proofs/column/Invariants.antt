@@ -1,9 +1,0 @@
--- `ask::column` meets its contract: at most 46 rows are read.
-use Prim.Native.Nat.{◌≤◌, ◌-◌}
-use Rattle.ask.proofs.column.Given as goal
-
-abbrev pub invariant-loop-k : goal.invariant-loop-k
-invariant-loop-k l = l.k ≤ l.n
-
-abbrev pub decreases-loop-k : goal.decreases-loop-k
-decreases-loop-k l = l.n - l.k
