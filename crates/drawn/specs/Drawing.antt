@@ -9,10 +9,11 @@ use Rattle.paper.specs.Codes.{code_of}
 use Rattle.paper.specs.Grid.{Node, Dir, Grid}
 use Rattle.paper.specs.Wire.{Legal, ToGo, manhattan}
 use Rattle.blocks.specs.Growing.{corner_at}
+use Rattle.paper.specs.declared.Refusal.{Refusal}
 use Rattle.shapes.specs.declared.Fault.{Fault}
 
 -- the excess, or what is wrong, in the document's numbers
-abbrev pub judged_of : Result ℕ Fault → Judged
+abbrev pub judged_of : Result ℕ (Fault Refusal) → Judged
 judged_of (Ok n) = record { code = 0; run = 0; excess = n }
 judged_of (Err f) = record { code = code_of f.why; run = f.run; excess = 0 }
 

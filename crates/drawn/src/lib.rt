@@ -69,7 +69,7 @@ fn pins_of(item: Item, n: usize) -> Pins
 }
 
 // By how many steps a wire drawn on a well-formed board is longer than a shortest one, or what is wrong with it.
-fn excess_of(board: Board, numbers: &[u16]) -> Result<u32, Fault>
+fn excess_of(board: Board, numbers: &[u16]) -> Result<u32, Fault<Refusal>>
     requires { WellFormed board }
     ensures { JudgedOn (layout_of board) numbers.now (judged_of result) }
 {
@@ -87,7 +87,7 @@ fn excess_of(board: Board, numbers: &[u16]) -> Result<u32, Fault>
 }
 
 // In the document's numbers.
-fn told(judged: Result<u32, Fault>) -> Judged
+fn told(judged: Result<u32, Fault<Refusal>>) -> Judged
     ensures { result ≡ judged_of judged }
 {
     match judged {

@@ -1,14 +1,11 @@
 -- How ranges are found and places marked: a law for each turn of a loop.
 -- Assumes nothing.
-use Rattle.std.specs.Prelude.{ℕ, suc, ◌+◌, ◌-◌, ◌*◌, ◌≤◌, ◌<◌, ◌≡◌, refl, ◌⊎◌, ◌↔◌, List, length, get_or, set, take, true, false, ltb}
+use Rattle.std.specs.Prelude.{ℕ, suc, ◌+◌, ◌-◌, ◌*◌, ◌≤◌, ◌<◌, ◌≡◌, refl, ◌⊎◌, ◌↔◌, List, length, get_or, set, take, drop, Option, Some, None, MatchOption}
 use Rattle.std.proofs.Common.{eq-or-lt_of_le, le_of_suc-le-suc, arith, ap, subst, ◌∙◌, inl, inr, ⊎_elim, length-set, get_or-set_same, get_or-set_other}
-use Rattle.std.proofs.Common.{get_or-take, length-take-le}
+use Rattle.std.proofs.Common.{get_or-take, get_or-drop}
 use Rattle.std.proofs.Math.Decide.{dec_lt, dec_le}
-use Rattle.std.proofs.lemmas.List.Sorted.{IsNonDecreasingBy-from_default, IsPartitionedBy-ltb}
-use Rattle.std.specs.List.Sorted.{IsPartitionedBy, IsPartitionPoint}
-use borrow.Author.Tests.{ltb-true, ltb-false}
 use Rattle.paper.specs.Grid.{Meets}
-use Rattle.std.specs.declared.ops.Range.{Range}
+use Rattle.edges.specs.declared.Range.{Range}
 use Rattle.edges.specs.Ranges.{Rising, Below, Meeting}
 use Rattle.edges.specs.Marks.{cell, Filled, In, Boxed}
 
@@ -18,62 +15,75 @@ pub le_or_lt : (a b : ℕ) → (a ≤ b) ⊎ (b < a)
 le_or_lt a b = elim (dec_le a b) [ yes h ↦ inl h | no h ↦ inr (omega arith) ]
 
 -- in a rising list the tracks from there on are not below v
-pub below_iff : (at : List ℕ) (count v r : ℕ) → Rising at count → Below at count v r → (i : ℕ) → i < count → (i < r) ↔ (get_or at i 0 < v)
-below_iff at count v r rise b i h = (
-  b.under i,
+pub below_iff : (at : List ℕ) (count v from r : ℕ) → Rising at count → Below at count v from r
+    → (i : ℕ) → i < count → from ≤ i → (i < r) ↔ (get_or at i 0 < v)
+below_iff at count v from r rise b i h start = (
+  λ p. b.under i p start,
   λ p. ⊎_elim (λ q. absurd (omega (arith, past q))) (λ q. q) (le_or_lt r i),
 )
   where
     past : r ≤ i → v ≤ get_or at i 0
     past q = ⊎_elim (λ e. omega (arith, b.here (omega arith), ap (λ k. get_or at k 0) e)) (λ k. omega (arith, b.here (omega arith), rise.rise r i k h)) (eq-or-lt_of_le q)
 
--- what a search by halves asks: below v, and from there on not
-pub parted : (at : List ℕ) (count v : ℕ) → count ≤ length at → Rising at count → IsPartitionedBy (λ u. ltb u v) (take count at)
-parted at count v h rise = IsPartitionedBy-ltb (λ u. u) (take count at) v (IsNonDecreasingBy-from_default (λ u. u) (take count at) 0 grows)
-  where
-    long : length (take count at) ≡ count
-    long = length-take-le count at h
+-- what a search for the first that is not below v, from `from` on, says of all of them
+module _ (at : List ℕ) (count v from : ℕ) (long : count ≤ length at) (within : from ≤ count) where
+  -- the numbers that are looked through
+  abbrev pub ahead : ℕ → ℕ
+  ahead k = get_or (take (count - from) (drop from at)) k 0
 
-    grows : (i j : ℕ) → i ≤ j → j < length (take count at) → get_or (take count at) i 0 ≤ get_or (take count at) j 0
-    grows i j l k =
-        let m : j < count = omega (arith, long) in
-        let a : get_or (take count at) i 0 ≡ get_or at i 0 = get_or-take count at i 0 (omega arith) in
-        let b : get_or (take count at) j 0 ≡ get_or at j 0 = get_or-take count at j 0 m in
-        ⊎_elim (λ e. omega (arith, ap (λ k. get_or (take count at) k 0) e)) (λ s. omega (arith, a, b, rise.rise i j s m)) (eq-or-lt_of_le l)
+  ahead_is : (k : ℕ) → k < count - from → ahead k ≡ get_or at (from + k) 0
+  ahead_is k h = get_or-take (count - from) (drop from at) k 0 h ∙ get_or-drop from at k 0
 
--- and what it finds
-pub below_point : (at : List ℕ) (count v r : ℕ) → count ≤ length at → r ≤ length (take count at)
-    → IsPartitionPoint (λ u. ltb u v ≡ true) (λ u. ltb u v ≡ false) (take count at) r → Below at count v r
-below_point at count v r h few p = record {
-  few = omega (arith, long);
-  under = λ i l. rw (at_place i (omega (arith, long))) at (ltb-true _ _ (p.0 i 0 (omega arith) l));
-  here = λ l. rw (at_place r l) at (ltb-false _ _ (p.1 r 0 (omega arith) (omega (arith, long))));
-}
-  where
-    long : length (take count at) ≡ count
-    long = length-take-le count at h
+  ahead_of : (i : ℕ) → from ≤ i → i < count → ahead (i - from) ≡ get_or at i 0
+  ahead_of i a b = ahead_is (i - from) (omega arith) ∙ ap (λ j. get_or at j 0) (omega arith)
 
-    at_place : (i : ℕ) → i < count → get_or (take count at) i 0 ≡ get_or at i 0
-    at_place i l = get_or-take count at i 0 l
+  abbrev pub Searched : Option ℕ → Type 0
+  Searched r = MatchOption r ((k : ℕ) → k < count - from → ¬ (v ≤ ahead k)) (λ i. (i < count - from) × (v ≤ ahead i) × ((k : ℕ) → k < i → ¬ (v ≤ ahead k)))
+
+  pub found_at : (k : ℕ) → Searched (Some k) → Below at count v from (from + k)
+  found_at k s = record {
+    past = omega arith;
+    few = omega (arith, s.0);
+    under = λ i a b. omega (arith, s.2 (i - from) (omega arith), ahead_of i b (omega (arith, s.0)));
+    here = λ h. omega (arith, s.1, ahead_is k s.0);
+  }
+
+  pub found_none : Searched None → Below at count v from count
+  found_none s = record {
+    past = within;
+    few = omega arith;
+    under = λ i a b. omega (arith, s (i - from) (omega arith), ahead_of i b a);
+    here = λ h. absurd (omega arith);
+  }
 
 -- found with a number that is v in other words
-pub below_as : {at : List ℕ} {count u r : ℕ} (v : ℕ) → Below at count u r → u ≡ v → Below at count v r
-below_as {at} {count} {u} {r} v b e = subst (λ n. Below at count n r) e b
+pub below_as : {at : List ℕ} {count u from r : ℕ} (v : ℕ) → Below at count u from r → u ≡ v → Below at count v from r
+below_as {at} {count} {u} {from} {r} v b e = subst (λ n. Below at count n from r) e b
 
--- the low end is `low` less c
-pub meeting : (at : List ℕ) (count lo hi c reach low from to : ℕ) → Rising at count → low + reach ≡ lo + 1
-    → Below at count (low - c) from → Below at count (hi + c) to → Meeting at count lo hi c reach (record { start = from; end = to })
+-- looked for from where one for a number that is not larger was found
+pub below_on : {at : List ℕ} {count u v m r : ℕ} → u ≤ v → Below at count u 0 m → Below at count v m r → Below at count v 0 r
+below_on {m} h p q = record {
+  past = omega arith;
+  few = q.few;
+  under = λ i k s. ⊎_elim (q.under i k) (λ a. omega (arith, p.under i a s)) (le_or_lt m i);
+  here = q.here;
+}
+
+-- the low end is `low` less c; the high end was looked for from a place that is not past the low one
+pub meeting : (at : List ℕ) (count lo hi c reach low start from to : ℕ) → Rising at count → low + reach ≡ lo + 1
+    → Below at count (low - c) 0 from → start ≤ from → Below at count (hi + c) start to
+    → Meeting at count lo hi c reach (record { from = from; to = to })
 unfolding Meets
-meeting at count lo hi c reach low from to rise e p q = record {
+meeting at count lo hi c reach low start from to rise e p s q = record {
   starts = p.few;
   ends = q.few;
   those = λ i h.
-      let low_iff = below_iff at count (low - c) from rise p i h in
-      let high_iff = below_iff at count (hi + c) to rise q i h in (
-        λ m. (let n : ¬ (get_or at i 0 < low - c) = λ z. omega (arith, low_iff.1 z) in omega arith, high_iff.0 m.1),
+      let low_iff = below_iff at count (low - c) 0 from rise p i h (omega arith) in
+      let high_iff = below_iff at count (hi + c) start to rise q i h in (
+        λ m. (let n : ¬ (get_or at i 0 < low - c) = λ z. omega (arith, low_iff.1 z) in omega arith, (high_iff (omega arith)).0 m.1),
         λ m.
             let on : from ≤ i = ⊎_elim (λ z. z) (λ z. absurd (omega (arith, low_iff.0 z, m.0))) (le_or_lt from i) in
-            (on, high_iff.1 m.1),
+            (on, (high_iff (omega arith)).1 m.1),
       );
 }
 
@@ -105,14 +115,14 @@ filled_end d e from k to h (inr p) q f = record {
 
 -- ---- row after row
 
-abbrev pub upto : Range ℕ → ℕ → Range ℕ
-upto y j = record { start = y.start; end = j }
+abbrev pub upto : Range → ℕ → Range
+upto y j = record { from = y.from; to = j }
 
-pub boxed_first : (d : List ℕ) (x y : Range ℕ) → Boxed d d x (upto y y.start)
+pub boxed_first : (d : List ℕ) (x y : Range) → Boxed d d x (upto y y.from)
 boxed_first d x y = record { long = refl; marked = λ i j h p. absurd (omega arith); others = λ i j h p. refl }
 
-module _ (d e f : List ℕ) (x y : Range ℕ) (k : ℕ) (narrow : x.end ≤ 96) (on : y.start ≤ k) (b : Boxed d e x (upto y k))
-    (r : Filled e f (x.start + k * 96) (x.end + k * 96)) where
+module _ (d e f : List ℕ) (x y : Range) (k : ℕ) (narrow : x.to ≤ 96) (on : y.from ≤ k) (b : Boxed d e x (upto y k))
+    (r : Filled e f (x.from + k * 96) (x.to + k * 96)) where
   -- a place of another row is not in this one
   row_before : (i j : ℕ) → i < 96 → j < k → get_or f (cell i j) 0 ≡ get_or e (cell i j) 0
   row_before i j h p = r.others (cell i j) (inl (omega arith))
@@ -140,15 +150,15 @@ module _ (d e f : List ℕ) (x y : Range ℕ) (k : ℕ) (narrow : x.end ≤ 96) 
 
       same : k ≡ j → get_or f (cell i j) 0 ≡ get_or d (cell i j) 0
       same q =
-          let out : (i < x.start) ⊎ (x.end ≤ i)
-          = ⊎_elim (λ z. inl z) (λ z. ⊎_elim (λ w. absurd (n ((z, w), (omega arith, omega arith)))) (λ w. inr w) (lt_or_le i x.end)) (lt_or_le i x.start) in
+          let out : (i < x.from) ⊎ (x.to ≤ i)
+          = ⊎_elim (λ z. inl z) (λ z. ⊎_elim (λ w. absurd (n ((z, w), (omega arith, omega arith)))) (λ w. inr w) (lt_or_le i x.to)) (lt_or_le i x.from) in
           r.others (cell i j) (⊎_elim (λ z. inl (omega arith)) (λ z. inr (omega arith)) out) ∙ b.others i j h (λ z. omega arith)
 
   pub boxed_more : Boxed d f x (upto y (k + 1))
   boxed_more = record { long = r.long ∙ b.long; marked = boxed_marked; others = boxed_others }
 
-pub boxed_end : (d e : List ℕ) (x y : Range ℕ) (k : ℕ) → y.end ≤ k → (k ≤ y.end) ⊎ (k ≤ y.start) → y.start ≤ k → Boxed d e x (upto y k) → Boxed d e x y
-boxed_end d e x y k h (inl p) q b = let z : k ≡ y.end = omega arith in subst (λ j. Boxed d e x (upto y j)) z b
+pub boxed_end : (d e : List ℕ) (x y : Range) (k : ℕ) → y.to ≤ k → (k ≤ y.to) ⊎ (k ≤ y.from) → y.from ≤ k → Boxed d e x (upto y k) → Boxed d e x y
+boxed_end d e x y k h (inl p) q b = let z : k ≡ y.to = omega arith in subst (λ j. Boxed d e x (upto y j)) z b
 boxed_end d e x y k h (inr p) q b = record {
   long = b.long;
   marked = λ i j a m. absurd (omega arith);

@@ -4,7 +4,7 @@ use Rattle.std.specs.Prelude.{ℕ, ◌+◌, ◌*◌, ◌≤◌, ◌<◌, ◌≡�
 use Rattle.paper.specs.Grid.{Node, Axis, Block, Hits, Any, edge}
 use Rattle.paper.specs.Laws.Joins.{join_of}
 use Rattle.blocks.specs.declared.Blocks.{Blocks}
-use Rattle.std.specs.declared.ops.Range.{Range}
+use Rattle.edges.specs.declared.Range.{Range}
 
 -- the place of the crossing of track i and track j
 abbrev pub cell : ℕ → ℕ → ℕ
@@ -16,11 +16,11 @@ pub record Filled (before after : List ℕ) (from to : ℕ) : Type 0 where
   pub marked : (k : ℕ) → from ≤ k → k < to → get_or after k 0 ≡ 1
   pub others : (k : ℕ) → (k < from) ⊎ (to ≤ k) → get_or after k 0 ≡ get_or before k 0
 
-abbrev pub In : Range ℕ → Range ℕ → ℕ → ℕ → Type 0
-In x y i j = ((x.start ≤ i) × (i < x.end)) × ((y.start ≤ j) × (j < y.end))
+abbrev pub In : Range → Range → ℕ → ℕ → Type 0
+In x y i j = ((x.from ≤ i) × (i < x.to)) × ((y.from ≤ j) × (j < y.to))
 
 -- the crossings of both ranges are marked, the others as they were
-pub record Boxed (before after : List ℕ) (x y : Range ℕ) : Type 0 where
+pub record Boxed (before after : List ℕ) (x y : Range) : Type 0 where
   pub long : length after ≡ length before
   pub marked : (i j : ℕ) → i < 96 → In x y i j → get_or after (cell i j) 0 ≡ 1
   pub others : (i j : ℕ) → i < 96 → ¬ (In x y i j) → get_or after (cell i j) 0 ≡ get_or before (cell i j) 0

@@ -12,7 +12,7 @@ use Rattle.blocks.specs.declared.Blocks.{Blocks}
 use Rattle.blocks.specs.declared.Place.{Place}
 use Rattle.blocks.specs.Flat.{place_at}
 use Rattle.seams.specs.Seaming.{place_box}
-use Rattle.std.specs.declared.ops.Range.{Range}
+use Rattle.edges.specs.declared.Range.{Range}
 use Rattle.edges.specs.Ranges.{Ascending, Meeting}
 use Rattle.edges.specs.Marks.{cell, In, Boxed, box_at, boxes, Shuts, SeamShuts, Seam, Added, Blank, Shut, Marked}
 use Rattle.edges.specs.Maps.{Mapped, Ways, ByBlock, ByRectangle, BySeams, Gains}
@@ -33,21 +33,21 @@ unfolding Shuts Hits Meets step
 shuts_iff level b xs ys i j = (λ h. omega arith, λ h. omega arith)
 shuts_iff upright b xs ys i j = (λ h. omega arith, λ h. omega arith)
 
-in_or_out : (x y : Range ℕ) (i j : ℕ) → In x y i j ⊎ (¬ (In x y i j))
+in_or_out : (x y : Range) (i j : ℕ) → In x y i j ⊎ (¬ (In x y i j))
 in_or_out x y i j =
-    elim (dec_le x.start i) [
+    elim (dec_le x.from i) [
       | no h ↦ inr (λ p. h p.0.0)
-      | yes h ↦ elim (dec_lt i x.end) [
+      | yes h ↦ elim (dec_lt i x.to) [
         | no k ↦ inr (λ p. k p.0.1)
-        | yes k ↦ elim (dec_le y.start j) [
+        | yes k ↦ elim (dec_le y.from j) [
           | no m ↦ inr (λ p. m p.1.0)
-          | yes m ↦ elim (dec_lt j y.end) [ no n ↦ inr (λ p. n p.1.1) | yes n ↦ inl ((h, k), (m, n)) ]
+          | yes m ↦ elim (dec_lt j y.to) [ no n ↦ inr (λ p. n p.1.1) | yes n ↦ inl ((h, k), (m, n)) ]
         ]
       ]
     ]
 
 -- the marks of one block
-pub added : (a : Axis) (b : Block) (xs ys d e : List ℕ) (nx ny : ℕ) (x y : Range ℕ) → nx ≤ 96
+pub added : (a : Axis) (b : Block) (xs ys d e : List ℕ) (nx ny : ℕ) (x y : Range) → nx ≤ 96
     → Meeting xs nx b.along_x.lo b.along_x.hi b.along_x.c (on_x a) x
     → Meeting ys ny b.along_y.lo b.along_y.hi b.along_y.c (on_y a) y
     → Boxed d e x y → Added d e nx ny (Shuts a b xs ys)

@@ -10,37 +10,55 @@ ghost use Rattle.edges.specs.Maps.{Mapped, Gains, ByBlock, ByRectangle, BySeams}
 
 use blocks::{Blocks, Place};
 use seams::join;
-use std::ops::Range;
-use tracks::{MOST_TRACKS, Map, Tracks};
+use tracks::{Map, Tracks};
+
+// From one track up to another, which is not in it. `std::ops::Range` is no `Copy`, and `Both` is one.
+#[derive(Clone, Copy, PartialEq, Eq, Debug)]
+pub struct Range {
+    pub from: usize,
+    pub to: usize,
+}
 
 // Both ranges that an open interval meets on one axis: the slabs, told by their low track, whose first unit it meets, and the tracks that lie in it.
-#[derive(Drop)]
+#[derive(Clone, Copy, PartialEq, Eq, Debug)]
 pub struct Both {
-    pub slabs: Range<usize>,
-    pub tracks: Range<usize>,
+    pub slabs: Range,
+    pub tracks: Range,
 }
 
-// The first track that does not lie below v, or how many there are where there is none.
-fn below(at: &[u16; MOST_TRACKS], count: usize, v: u32) -> usize
-    requires { (count ≤ 96) × Rising at.now count }
-    ensures { Below at.now count v result }
+// The first track from `from` on that does not lie below v, or how many there are where there is none. One after the other: a search by halves
+// was tried, and takes longer, since there are 96 at most.
+fn below(tracks: &Tracks, v: u32, from: usize) -> usize
+    requires { (tracks.now.count ≤ 96) × (from ≤ tracks.now.count) }
+    ensures { Below tracks.now.at tracks.now.count v from result }
 {
-    at[..count].partition_point(|&track| u32::from(track) < v)
+    let ahead = &tracks.at[from..tracks.count];
+    match ahead.iter().position(|&track| u32::from(track) >= v) {
+        Some(k) => from + k,
+        None => tracks.count,
+    }
 }
 
-// What the open interval from lo - c to hi + c meets. Where hi + c lies before a range's begin, nothing is in it.
+// What the open interval from lo - c to hi + c meets. The slabs begin no later than the tracks, so the other two places are looked for from the
+// slabs' begin on. Where hi + c lies before that, neither range ends after it begins, and nothing is in it.
 fn met(tracks: &Tracks, lo: u16, hi: u16, c: u16) -> Both
     requires { Ascending tracks.now }
     ensures { Meeting tracks.now.at tracks.now.count lo hi c 1 result.slabs × Meeting tracks.now.at tracks.now.count lo hi c 0 result.tracks }
 {
     let low = u32::from(lo);
     let width = u32::from(c);
-    let slab = below(&tracks.at, tracks.count, low.saturating_sub(width));
-    let track = below(&tracks.at, tracks.count, (low + 1).saturating_sub(width));
-    let end = below(&tracks.at, tracks.count, u32::from(hi) + width);
+    let slab = below(tracks, low.saturating_sub(width), 0);
+    let track = below(tracks, (low + 1).saturating_sub(width), slab);
+    let end = below(tracks, u32::from(hi) + width, slab);
     Both {
-        slabs: slab..end,
-        tracks: track..end,
+        slabs: Range {
+            from: slab,
+            to: end,
+        },
+        tracks: Range {
+            from: track,
+            to: end,
+        },
     }
 }
 
@@ -55,16 +73,18 @@ fn mark_row(shut: &mut [u8; 9216], from: usize, to: usize)
 }
 
 // Marks a rectangle of crossings.
-fn mark(shut: &mut [u8; 9216], x: Range<usize>, y: Range<usize>)
-    requires { (x.start ≤ 96) × (x.end ≤ 96) × (y.end ≤ 96) }
+fn mark(shut: &mut [u8; 9216], x: Range, y: Range)
+    requires { (x.from ≤ 96) × (x.to ≤ 96) × (y.to ≤ 96) }
     ensures { Boxed shut.old shut.new x y }
 {
-    for j in y.start..y.end {
-        mark_row(shut, x.start + j * 96, x.end + j * 96);
+    for j in y.from..y.to {
+        mark_row(shut, x.from + j * 96, x.to + j * 96);
     }
 }
 
 // Marks the ways that the block from p, widened by c, shuts: level ones, told by their left crossing, and upright ones, told by the one below.
+// Never inlined, so that the loop over pairs of blocks, of which few share a side, stays small.
+#[inline(never)]
 fn mark_block(map: &mut Map, p: Place, c: u16)
     requires { Mapped map.old }
     ensures { Gains map.old map.new (ByBlock (widened c (place_area p))) }

@@ -45,10 +45,15 @@ pub enum Broken {
 }
 
 impl fmt::Display for Broken {
+    ghost use Rattle.std.specs.Prelude.{Some};
+    ghost use Rattle.input.specs.Messages.{message};
+
+    ghost output = { λ broken. Some (message broken) };
+
     fn fmt<W: fmt::Write>(&self, f: &mut fmt::Formatter<W>) -> fmt::Result {
         match self {
-            Broken::Unread => write!(f, "standard input cannot be read"),
-            Broken::Unwritten => write!(f, "standard output cannot be written"),
+            Broken::Unread => f.write_str("standard input cannot be read"),
+            Broken::Unwritten => f.write_str("standard output cannot be written"),
         }
     }
 }

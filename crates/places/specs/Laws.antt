@@ -30,13 +30,14 @@ use Rattle.seams.specs.Seaming.{SeamOf, HitOr}
 use Rattle.seams.specs.Laws.Seamed.{in_seam, seam_of}
 use Rattle.shapes.specs.Corners.{corners_of}
 use Rattle.shapes.specs.Laws.Corners.{corners_one, runs_are}
+use Rattle.paper.specs.declared.Refusal.{Refusal}
 use Rattle.shapes.specs.declared.Fault.{Fault}
 use Rattle.shapes.specs.Faults.{fault_of, fault_at}
 use Rattle.shapes.specs.Laws.Fits.{coded, form_coded}
 use Rattle.places.specs.Placing.{OnHeld, Straight, RunSays, PlacesSay, AllSay}
 
 -- a fault has a code
-a_code : (f : Fault) → ¬ ((fault_of (Err f)).code ≡ 0)
+a_code : (f : Fault Refusal) → ¬ ((fault_of (Err f)).code ≡ 0)
 a_code f z = omega (arith, coded f.why)
 
 -- ---- one run
@@ -46,7 +47,7 @@ module _ (s : Size) (b : Blocks) (m : Item) (k : ℕ) where
   abbrev On : Size → Type 0
   On s = OnBoard s (corner_at m k) × OnBoard s (corner_at m (k + 1))
 
-  pub off_board : ¬ (On s) → (f : Fault) → f ≡ fault_at OffBoard k → RunSays s b m k (Err f)
+  pub off_board : ¬ (On s) → (f : Fault Refusal) → f ≡ fault_at OffBoard k → RunSays s b m k (Err f)
   unfolding RunSays Gives
   off_board n f e l z held fits = inl (λ h. n (subst On z h), ap (λ f. fault_of (Err f)) e)
 
@@ -76,11 +77,11 @@ module _ (s : Size) (b : Blocks) (m : Item) (k : ℕ) where
     abbrev Entered : Bool → Type 0
     Entered f = HitOr b KeepOuts place (SeamOf b place) f
 
-    pub keep_out_there : Entered true → (f : Fault) → f ≡ fault_at RunInKeepOut k → RunSays s b m k (Err f)
+    pub keep_out_there : Entered true → (f : Fault Refusal) → f ≡ fault_at RunInKeepOut k → RunSays s b m k (Err f)
     unfolding RunSays Gives
     keep_out_there h f e l z held fits = inr (on_both l z, inl ((entered_says l z held fits true h).fact tt, ap (λ f. fault_of (Err f)) e))
 
-    pub wire_there : Entered false → Hit b (look_for wires) place true → (f : Fault) → f ≡ fault_at RunNearWire k → RunSays s b m k (Err f)
+    pub wire_there : Entered false → Hit b (look_for wires) place true → (f : Fault Refusal) → f ≡ fault_at RunNearWire k → RunSays s b m k (Err f)
     unfolding RunSays Gives
     wire_there g h f e l z held fits =
         inr (on_both l z, inr ((entered_says l z held fits false g).test, inl ((way l z held fits wires true h).fact tt, ap (λ f. fault_of (Err f)) e)))
@@ -112,7 +113,7 @@ module _ (s : Size) (b : Blocks) (m : Item) (n : ℕ) where
         let e : n - k ≡ suc (n - (k + 1)) = omega arith in
         rw e (subst (λ j. Gives (run_check l (k + 1) (corner_at m k) (corner_at m j) ++ run_checks l (suc (k + 1)) (listed (corner_at m) j (suc (n - (k + 1))))) v) (add-one k) g)
 
-    pub left_stop : k < n → (f : Fault) → RunSays s b m k (Err f) → (r : Result (Unit {0}) Fault) → r ≡ Err f → PlacesSay s b m n r
+    pub left_stop : k < n → (f : Fault Refusal) → RunSays s b m k (Err f) → (r : Result (Unit {0}) (Fault Refusal)) → r ≡ Err f → PlacesSay s b m n r
     unfolding Left RunSays PlacesSay
     left_stop h f g r e l z held fits =
         let v = fault_of (Err f) in
@@ -158,10 +159,10 @@ module _ (m : Item) (n : ℕ) where
       turning_at (stretch_at m) t.0 0 n k t.1 h k (omega arith)
 
   module _ (s : Size) (b : Blocks) where
-    pub ill_shaped : (f : Fault) → Gives shape (fault_of (Err f)) → (r : Result (Unit {0}) Fault) → r ≡ Err f → AllSay s b m n r
+    pub ill_shaped : (f : Fault Refusal) → Gives shape (fault_of (Err f)) → (r : Result (Unit {0}) (Fault Refusal)) → r ≡ Err f → AllSay s b m n r
     unfolding AllSay
     ill_shaped f g r e l z held fits = rw e (gives_first shape _ (fault_of (Err f)) (a_code f) g)
 
-    pub well_shaped : Gives shape (plain 0) → (r : Result (Unit {0}) Fault) → PlacesSay s b m n r → AllSay s b m n r
+    pub well_shaped : Gives shape (plain 0) → (r : Result (Unit {0}) (Fault Refusal)) → PlacesSay s b m n r → AllSay s b m n r
     unfolding AllSay PlacesSay
     well_shaped g r h l z held fits = gives_then shape _ (fault_of r) (good_shape g) (h l z held fits)

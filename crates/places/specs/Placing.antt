@@ -10,6 +10,7 @@ use Rattle.paper.specs.Drawn.{run_check, run_checks, corner_checks}
 use Rattle.blocks.specs.declared.Blocks.{Blocks}
 use Rattle.blocks.specs.Flat.{HeldOf}
 use Rattle.blocks.specs.Growing.{corner_at, stretch_at}
+use Rattle.paper.specs.declared.Refusal.{Refusal}
 use Rattle.shapes.specs.declared.Fault.{Fault}
 use Rattle.shapes.specs.Corners.{corners_of}
 use Rattle.shapes.specs.Faults.{fault_of}
@@ -26,11 +27,11 @@ SomeHeld s b = (l : Layout) × (l.size ≡ s) × HeldOf b wires l × All (ThingF
 abbrev pub Straight : Item → ℕ → Type 0
 Straight m k = (a : Axis) × Along a (stretch_at m k)
 
-unfoldable pub RunSays : Size → Blocks → Item → ℕ → Result (Unit {0}) Fault → Type 0
+unfoldable pub RunSays : Size → Blocks → Item → ℕ → Result (Unit {0}) (Fault Refusal) → Type 0
 RunSays s b m k r = OnHeld s b (λ l. Gives (run_check l (k + 1) (corner_at m k) (corner_at m (k + 1))) (fault_of r))
 
-unfoldable pub PlacesSay : Size → Blocks → Item → ℕ → Result (Unit {0}) Fault → Type 0
+unfoldable pub PlacesSay : Size → Blocks → Item → ℕ → Result (Unit {0}) (Fault Refusal) → Type 0
 PlacesSay s b m n r = OnHeld s b (λ l. Gives (run_checks l 1 (corners_of m (n + 1))) (fault_of r))
 
-unfoldable pub AllSay : Size → Blocks → Item → ℕ → Result (Unit {0}) Fault → Type 0
+unfoldable pub AllSay : Size → Blocks → Item → ℕ → Result (Unit {0}) (Fault Refusal) → Type 0
 AllSay s b m n r = OnHeld s b (λ l. Gives (corner_checks l (corners_of m (n + 1))) (fault_of r))

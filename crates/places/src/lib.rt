@@ -25,7 +25,7 @@ fn ends_on(size: Size, item: Item, k: usize) -> bool
 
 // What stands in the way of the run at k.
 #[tactic(auto, using(crate::specs::Laws::off_board, crate::specs::Laws::keep_out_there, crate::specs::Laws::wire_there, crate::specs::Laws::none_there, paper::specs::Laws::Says::said, paper::specs::Laws::Says::said_not))]
-fn run_fault(size: Size, held: Blocks, item: Item, k: usize) -> Result<(), Fault>
+fn run_fault(size: Size, held: Blocks, item: Item, k: usize) -> Result<(), Fault<Refusal>>
     requires keeps { Keeps held }
     requires few { k < most_runs }
     requires straight { Straight item k }
@@ -46,7 +46,7 @@ fn run_fault(size: Size, held: Blocks, item: Item, k: usize) -> Result<(), Fault
 
 // The first of the item's n runs that something stands in the way of.
 #[tactic(auto, using(crate::specs::Laws::left_start, crate::specs::Laws::left_stop, crate::specs::Laws::left_next, crate::specs::Laws::left_end))]
-fn bad_run(size: Size, held: Blocks, item: Item, n: usize) -> Result<(), Fault>
+fn bad_run(size: Size, held: Blocks, item: Item, n: usize) -> Result<(), Fault<Refusal>>
     requires keeps { Keeps held }
     requires few { n ≤ most_runs }
     requires straight { (k : ℕ) → k < n → Straight item k }
@@ -60,7 +60,7 @@ fn bad_run(size: Size, held: Blocks, item: Item, n: usize) -> Result<(), Fault>
 
 // All that is said of the item's n runs, but its excess.
 #[tactic(auto, using(crate::specs::Laws::ill_shaped, crate::specs::Laws::well_shaped, crate::specs::Laws::straight_runs, seams::specs::Laws::Closing::held_keeps))]
-pub fn fault_of(size: Size, held: Blocks, item: Item, n: usize) -> Result<(), Fault>
+pub fn fault_of(size: Size, held: Blocks, item: Item, n: usize) -> Result<(), Fault<Refusal>>
     requires { SomeHeld size held × (n ≤ most_runs) }
     ensures { AllSay size held item n result }
 {

@@ -68,7 +68,7 @@ fn tell(
         xs: [0; 25],
         ys: [0; 25],
     };
-    let corners = trace(chart, turns, s, t, None, long, left, &mut at, 0);
+    let corners = trace(chart, &turns, s, t, None, long, left, &mut at, 0);
     if corners > 25 {
         return Err(Untold::TooManyRuns(long));
     }

@@ -16,23 +16,24 @@ use blocks::stretch;
 use paper::{Item, Refusal, Size};
 
 // What is wrong with a wire, and the run that it is about, counted from 1; run 0 where it is about none, as `Judged` and `Gives` have it.
+// Why it is wrong is a `Refusal`, or whatever else a caller tells it by, such as a number.
 #[derive(Clone, Copy, PartialEq, Eq, Debug)]
-pub struct Fault {
-    pub why: Refusal,
+pub struct Fault<W> {
+    pub why: W,
     pub run: u8,
 }
 
 // The reason, about no run.
-impl From<Refusal> for Fault {
+impl From<Refusal> for Fault<Refusal> {
     ghost from_gives = { λ why fault. fault ≡ about_none why };
 
-    fn from(why: Refusal) -> Fault {
+    fn from(why: Refusal) -> Fault<Refusal> {
         Fault { why, run: 0 }
     }
 }
 
 // The reason, about the run at k.
-pub fn fault_at(why: Refusal, k: usize) -> Fault
+pub fn fault_at<W>(why: W, k: usize) -> Fault<W>
     requires { k < most_runs }
     ensures { result ≡ fault_at why k }
 {
@@ -75,7 +76,7 @@ fn along(item: Item, k: usize, level: bool) -> bool
 
 // The first of the item's n runs that is empty or slanted, or goes along the axis of the one before.
 #[tactic(auto, using(crate::specs::Laws::Bad::ahead_start, crate::specs::Laws::Bad::ahead_stop, crate::specs::Laws::Bad::ahead_next, crate::specs::Laws::Bad::ahead_end, paper::specs::Laws::Says::said, paper::specs::Laws::Says::said_not))]
-fn bad_turn(item: Item, n: usize) -> Result<(), Fault>
+fn bad_turn(item: Item, n: usize) -> Result<(), Fault<Refusal>>
     requires { n ≤ most_runs }
     ensures { Gives (shape_checks 1 (runs (corners_of item (n + 1)))) (fault_of result) }
 {
@@ -91,7 +92,7 @@ fn bad_turn(item: Item, n: usize) -> Result<(), Fault>
 
 // What is wrong with the shape of the item's n runs: equal ends, or the first bad run.
 #[tactic(auto, unfolding(paper::specs::Answer::Gives))]
-pub fn bad_shape(item: Item, n: usize) -> Result<(), Fault>
+pub fn bad_shape(item: Item, n: usize) -> Result<(), Fault<Refusal>>
     requires { n ≤ most_runs }
     ensures { Gives (form_checks (corners_of item (n + 1))) (fault_of result) }
 {

@@ -21,6 +21,13 @@ dir_of North = N
 dir_of West = W
 dir_of South = S
 
+-- every number is a direction's
+abbrev pub numbered : ℕ → Dir
+numbered zero = E
+numbered (suc zero) = N
+numbered (suc (suc zero)) = W
+numbered (suc (suc (suc n))) = S
+
 -- the direction by which a wire has come; none where it begins
 abbrev pub way_of : Option Direction → Option Dir
 way_of None = None

@@ -6,7 +6,7 @@ ghost use Rattle.paper.specs.Grid.{step};
 ghost use Rattle.paper.specs.Laws.Says.{Says};
 ghost use Rattle.paper.specs.Laws.Steps.{axis_of};
 ghost use Rattle.distances.specs.Ways.{cell, map_of};
-ghost use Rattle.trace.specs.Trail.{Nearer, Along, OnAxis, Leads, Fits, FirstWay, Charted, Room, Tracing, Traces, crossing, dir_of, way_of, distance, over, toll_of, noted, turns_in, dues, bend_from, axis_by};
+ghost use Rattle.trace.specs.Trail.{Nearer, Along, OnAxis, Leads, Fits, FirstWay, Charted, Room, Tracing, Traces, crossing, dir_of, numbered, way_of, distance, over, toll_of, noted, turns_in, dues, bend_from, axis_by};
 
 use distances::width;
 use tracks::{At, Map, Tracks};
@@ -18,6 +18,20 @@ pub enum Direction {
     North,
     West,
     South,
+}
+
+// By number: 0 is east, 1 north, 2 west, and every other south.
+impl From<u8> for Direction {
+    ghost from_gives = { λ n dir. dir_of dir ≡ numbered n };
+
+    fn from(n: u8) -> Direction {
+        match n {
+            0 => Direction::East,
+            1 => Direction::North,
+            2 => Direction::West,
+            3..=255 => Direction::South,
+        }
+    }
 }
 
 // In the order in which they are tried.
@@ -233,11 +247,12 @@ impl Chart<'_> {
 
 // Writes the corners of the wire from q to g from the place `at` on, as far as there is room, and gives the place after the last.
 // The wire has come to q by the direction `came`, or begins there; `remaining` is the distance still to go, `left` what is left for turns.
-// `turns` is the table of turns still to make; without one they cost nothing.
+// `turns` is the table of turns still to make; without one they cost nothing. By reference, as `chart`: the same in every call, it needs no place in
+// the calls' frames, and a call that is the last thing done is a jump.
 // Nine parameters: what changes from call to call changes all at once, so a struct of it would be taken apart and made anew in each.
 pub fn trace(
     chart: &Chart<'_>,
-    turns: Option<&[u32]>,
+    turns: &Option<&[u32]>,
     q: At,
     g: At,
     came: Option<Direction>,
@@ -247,19 +262,19 @@ pub fn trace(
     at: usize,
 ) -> usize
     requires { Tracing (map_of chart.now.map.now) chart.now.d.now q g remaining at }
-    ensures { Traces (map_of chart.now.map.now) chart.now.d.now (toll_of turns.entry) (crossing g) (crossing q) (way_of came)
+    ensures { Traces (map_of chart.now.map.now) chart.now.d.now (toll_of turns.now) (crossing g) (crossing q) (way_of came)
         left at corners.old.xs corners.new.xs corners.old.ys corners.new.ys result }
 {
     if q == g {
         corners.write(at, chart.map, q);
         return at + 1;
     }
-    let Some(dir) = chart.first_way(turns, came, left, q) else {
+    let Some(dir) = chart.first_way(*turns, came, left, q) else {
         return at;
     };
     let to = next(q, dir);
     let ahead = left_at(chart.d, to);
-    let rest = due(turns, to, dir);
+    let rest = due(*turns, to, dir);
     if came == Some(dir) {
         return trace(chart, turns, to, g, came, ahead, rest, corners, at);
     }

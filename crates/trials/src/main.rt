@@ -24,6 +24,7 @@
 mod bytes;
 mod crowd;
 mod lent;
+mod lossy;
 mod numbers;
 mod say;
 mod words;
@@ -35,6 +36,7 @@ use index::{Index, no_index};
 use input::{read_all, zeros};
 use items::begin;
 use lent::marks;
+use lossy::Lossy;
 use numbers::numbers_of;
 use paper::{Board, LEAST_SLICE, Size};
 use say::say_reply;
@@ -146,5 +148,5 @@ fn main(rt: HostRuntime) {
     let mut room = zeros::<65536>();
     let mut source = rt.stdin();
     let size = read_all(&mut source, &mut room).unwrap_or_else(|failed| failed.size);
-    let _ = run(&rt, &room[..size]);
+    let _ = run(&Lossy { out: &rt }, &room[..size]);
 }

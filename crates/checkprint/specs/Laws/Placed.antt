@@ -1,11 +1,12 @@
 -- Where the printing stands: at the start, with the lines that waited written, and a piece further; and where it ends.
 -- Assumes nothing.
-use Rattle.std.specs.Prelude.{ℕ, ◌+◌, ◌-◌, ◌≤◌, ◌<◌, ◌≡◌, refl, ◌⊎◌, Some, Ok, List, [], ◌∷◌, ◌++◌, length, take, drop}
+use Rattle.std.specs.Prelude.{ℕ, ◌+◌, ◌-◌, ◌≤◌, ◌<◌, ◌≡◌, refl, ◌⊎◌, Some, Ok, Err, List, [], ◌∷◌, ◌++◌, length, take, drop}
 use Rattle.std.proofs.Common.{arith, sym, ap, ◌∙◌, inl, inr, append_assoc, append-nil, length-append, take_at, length-take-le}
 use Rattle.std.proofs.Math.Seq.{take-append-add}
 use Rattle.paper.specs.declared.Board.{Board}
 use Rattle.paper.specs.Layout.{fresh}
 use Rattle.paper.specs.Padding.{board_of, WellFormed}
+use Rattle.input.specs.declared.Broken.{Broken}
 use Rattle.text.specs.Text.{Puts}
 use Rattle.text.specs.Laws.Written.{puts_length}
 use Rattle.checkprint.specs.declared.Last.{Last}
@@ -105,6 +106,9 @@ stands_more p buffer part piece d s r = record {
 
 pub counts_end : (n m : ℕ) (l : Last) → Counts n (Ok (Some l)) m → EndsAt (Ok l) m
 counts_end n m l c = c
+
+pub counts_broken : (n m : ℕ) (b : Broken) → Counts n (Err b) m → EndsAt (Err b) m
+counts_broken n m b c = c
 
 -- by what was read for a piece
 pub for_ends : (bs : List ℕ) (n : ℕ) (l : Last) → n < most_pieces → StopFor bs (Some l) → Counts n (Ok (Some l)) n

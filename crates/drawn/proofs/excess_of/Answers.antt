@@ -17,6 +17,7 @@ use Rattle.paper.specs.Laws.Says.{said, said_not}
 use Rattle.blocks.specs.declared.Blocks.{Blocks}
 use Rattle.blocks.specs.Flat.{HeldOf}
 use Rattle.blocks.specs.Laws.Board.{drawn as drawn-board}
+use Rattle.paper.specs.declared.Refusal.{Refusal}
 use Rattle.shapes.specs.declared.Fault.{Fault}
 use Rattle.shapes.specs.Faults.{fault_of}
 use Rattle.places.specs.Placing.{AllSay}
@@ -35,7 +36,7 @@ now-laid b w n = laid _ (well_formed _ w).sound (some-bounds b n)
 runs-few : (ns : List ℕ) → CountFits ns → let n = length ns / 2 - 1 in (length ns ≡ (n + 1) + (n + 1)) × (1 ≤ n) × (n ≤ 24)
 runs-few ns f = omega (arith, f.1, f.2, f.3)
 
-says : (b : Board) (ns : List ℕ) (held : Blocks) (m : Item) (f : Result (Unit {0}) Fault) → CountFits ns → Laid (layout_of b) → m ≡ item_of (wire 0 (drawn ns))
+says : (b : Board) (ns : List ℕ) (held : Blocks) (m : Item) (f : Result (Unit {0}) (Fault Refusal)) → CountFits ns → Laid (layout_of b) → m ≡ item_of (wire 0 (drawn ns))
     → HeldOf held wires (layout_of b) → AllSay b.size held m (length ns / 2 - 1) f → Gives (corner_checks (layout_of b) (drawn ns)) (fault_of f)
 unfolding layout_of
 says b ns held m f fits L made h a =

@@ -31,6 +31,7 @@ use Rattle.blocks.specs.Laws.Held.{held_fits, flat_held}
 use Rattle.shapes.specs.Corners.{corners_of}
 use Rattle.shapes.specs.Laws.Corners.{corners_one, last_listed}
 use Rattle.router.specs.Route.{Asked}
+use Rattle.paper.specs.declared.Refusal.{Refusal}
 use Rattle.shapes.specs.declared.Fault.{Fault}
 use Rattle.shapes.specs.Faults.{fault_of, about_none}
 use Rattle.shapes.specs.Laws.Fits.{coded}
@@ -42,17 +43,17 @@ use Rattle.drawn.specs.Laws.Long.{runs_long}
 -- ---- refused
 
 module _ (l : Layout) (ns : List ℕ) where
-  pub before_bounds : BeforeBounds l → (f : Fault) → f ≡ about_none NoBounds → JudgedOn l ns (judged_of (Err f))
+  pub before_bounds : BeforeBounds l → (f : Fault Refusal) → f ≡ about_none NoBounds → JudgedOn l ns (judged_of (Err f))
   unfolding Gives
   before_bounds z f e = rw e (record { said = inl (z, refl); refused = λ n. refl; accepted = λ x. absurd (omega arith) })
 
   module _ (b : ¬ (BeforeBounds l)) where
-    pub ill_counted : ¬ (CountFits ns) → (f : Fault) → f ≡ about_none CornerCount → JudgedOn l ns (judged_of (Err f))
+    pub ill_counted : ¬ (CountFits ns) → (f : Fault Refusal) → f ≡ about_none CornerCount → JudgedOn l ns (judged_of (Err f))
     unfolding Gives
     ill_counted c f e = rw e (record { said = inr (b, inl (c, refl)); refused = λ n. refl; accepted = λ x. absurd (omega arith) })
 
     module _ (c : CountFits ns) where
-      pub faulty : (f : Fault) → Gives (corner_checks l (drawn ns)) (fault_of (Err f)) → (r : Result ℕ Fault) → r ≡ Err f → JudgedOn l ns (judged_of r)
+      pub faulty : (f : Fault Refusal) → Gives (corner_checks l (drawn ns)) (fault_of (Err f)) → (r : Result ℕ (Fault Refusal)) → r ≡ Err f → JudgedOn l ns (judged_of r)
       unfolding Gives
       faulty f g r e = rw e (record { said = inr (b, inr (c, g)); refused = λ n. refl; accepted = λ x. absurd (omega (arith, x, coded f.why)) })
 
@@ -141,7 +142,7 @@ corners_drawn ns m n e h = ap (λ m. corners_of m (n + 1)) e ∙ corners_back (d
 
 module _ (b : Blocks) (l : Layout) (ns : List ℕ) (m : Item) (n : ℕ) (made : m ≡ item_of (wire 0 (drawn ns))) (count : length ns ≡ (n + 1) + (n + 1))
     (some : 1 ≤ n) (few : n ≤ most_runs) (held : HeldOf b wires l) (L : Laid l) where
-  pub drawn_says : (f : Result (Unit {0}) Fault) → AllSay l.size b m n f → Gives (corner_checks l (drawn ns)) (fault_of f)
+  pub drawn_says : (f : Result (Unit {0}) (Fault Refusal)) → AllSay l.size b m n f → Gives (corner_checks l (drawn ns)) (fault_of f)
   unfolding AllSay
   drawn_says f a = subst (λ ps. Gives (corner_checks l ps) (fault_of f)) (corners_drawn ns m n made count) (a l refl held L.fits.two.each)
 

@@ -1,12 +1,18 @@
--- `edges::below` meets its contract: the tracks rise, so the search by halves finds the first that is not below v.
-use Rattle.std.proofs.Common.{rules, arith, ◌≤◌, length, ltb}
-use Rattle.std.proofs.lemmas.List.Sorted.{IsPartitionPoint-from_clause}
-use Rattle.edges.specs.Laws.{parted, below_point}
+-- `edges::below` meets its contract: every track passed lies below v.
+use Rattle.std.proofs.Common.{rules, arith}
+use Rattle.edges.specs.Laws.{Searched, found_at, found_none}
 use Rattle.edges.proofs.below.Goals as goal
 
-pub returns : goal.returns
-returns c =
+pub returns-in-Some : goal.returns-in-Some
+returns-in-Some c =
     let a = c.args in
-    let long : a.count ≤ length a.at.now = omega arith in
-    below_point a.at.now a.count a.v _ long c.partition_point.ensures.bound
-    (IsPartitionPoint-from_clause (λ u. ltb u a.v) _ _ c.partition_point.ensures.partitioned (parted a.at.now a.count a.v long c.requires.1) (λ b r q k. search rules))
+    let t = a.tracks.now in
+    let s : Searched t.at t.count a.v a.from (omega arith) (omega arith) c.position.result = search rules in
+    found_at t.at t.count a.v a.from (omega arith) (omega arith) c.in-Some.k (rw c.in-Some.is at s)
+
+pub returns-in-None : goal.returns-in-None
+returns-in-None c =
+    let a = c.args in
+    let t = a.tracks.now in
+    let s : Searched t.at t.count a.v a.from (omega arith) (omega arith) c.position.result = search rules in
+    found_none t.at t.count a.v a.from (omega arith) (omega arith) (rw c.in-None.is at s)

@@ -6,4 +6,4 @@ use Rattle.edges.specs.Laws.{upto}
 use Rattle.edges.proofs.mark.Given as goal
 
 abbrev pub invariant-loop-j : goal.invariant-loop-j
-invariant-loop-j l = ((l.j ≤ l.fn.y.end) ⊎ (l.j ≤ l.fn.y.start)) × Boxed l.initial.shut l.shut l.x (upto l.fn.y l.j)
+invariant-loop-j l = ((l.j ≤ l.fn.y.to) ⊎ (l.j ≤ l.fn.y.from)) × Boxed l.initial.shut l.shut l.x (upto l.fn.y l.j)

@@ -21,6 +21,7 @@ use Rattle.blocks.specs.Flat.{listed}
 use Rattle.blocks.specs.Growing.{stretch_at}
 use Rattle.shapes.specs.Corners.{axis_for, corners_of}
 use Rattle.shapes.specs.Laws.Corners.{runs_are, other_axis}
+use Rattle.paper.specs.declared.Refusal.{Refusal}
 use Rattle.shapes.specs.declared.Fault.{Fault}
 use Rattle.shapes.specs.Faults.{fault_of, fault_at}
 
@@ -120,7 +121,7 @@ module _ (m : Item) (n : ℕ) where
               (subst (λ i. Gives (by_turns (axis_for (not flat)) i (listed (stretch_at m) (k + 1) (n - (k + 1)))) v) (add-one (k + 1)) g),
         )))
 
-    pub ahead_stop : k < n → ¬ (Along (axis_for flat) (stretch_at m k)) → (f : Fault) → f ≡ fault_at BadRun k → Gives (shape_checks 1 (runs (corners_of m (n + 1)))) (fault_of (Err f))
+    pub ahead_stop : k < n → ¬ (Along (axis_for flat) (stretch_at m k)) → (f : Fault Refusal) → f ≡ fault_at BadRun k → Gives (shape_checks 1 (runs (corners_of m (n + 1)))) (fault_of (Err f))
     unfolding Ahead Gives by_turns
     ahead_stop h a f e = t (fault_of (Err f)) (rw (onward h) (inl (a, ap (λ f. fault_of (Err f)) e)))
 

@@ -31,7 +31,7 @@ pub coded : (r : Refusal) → 1 ≤ code_of r
 coded r = grind arith
 
 -- the verdict is 0 just where nothing is wrong
-pub ok_says : (f : Result (Unit {0}) Fault) → Says (is_ok f) ((fault_of f).code ≡ 0)
+pub ok_says : (f : Result (Unit {0}) (Fault Refusal)) → Says (is_ok f) ((fault_of f).code ≡ 0)
 ok_says (Ok u) = says_always refl
 ok_says (Err f) = says_never (λ z. omega (arith, coded f.why))
 
@@ -45,7 +45,7 @@ module _ (s : Size) (m : Item) (lx : length m.xs ≡ most_corners) (ly : length 
   fits_not few off r e = rw e (says_never (λ w. off (corners_at m lx ly (OnBoard s) (n + 1) (omega arith) w.on)))
 
   module _ (some : 1 ≤ n) (few : n ≤ most_runs) (on : (k : ℕ) → k < n + 1 → OnBoard s (corner_at m k))
-      (f : Result (Unit {0}) Fault) (g : Gives (form_checks (corners_of m (n + 1))) (fault_of f)) where
+      (f : Result (Unit {0}) (Fault Refusal)) (g : Gives (form_checks (corners_of m (n + 1))) (fault_of f)) where
     runs_long : length (runs (corners_of m (n + 1))) ≡ n
     runs_long = ap length (runs_are m lx ly n few) ∙ length_listed (stretch_at m) 0 n
 

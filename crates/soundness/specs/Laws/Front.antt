@@ -1,7 +1,7 @@
 -- Items of an array: all together, and one after the other.
 -- Assumes nothing.
 use Rattle.std.specs.Prelude.{Bool, sum_by, ◌*◌, ℕ, zero, suc, ◌+◌, ◌≤◌, ◌<◌, ◌≡◌, false, List, [], ◌∷◌, ◌++◌, map, get_or, take, drop}
-use Rattle.std.proofs.Common.{arith, add-one, sym, ap₂, subst₂, ◌∙◌, take-suc}
+use Rattle.std.proofs.Common.{arith, add-one, sym, ap₂, subst₂, ◌∙◌, length-take-le, take-suc, get_or-take}
 use Rattle.std.proofs.Math.Path.{refl, ap, subst}
 use Rattle.std.proofs.lemmas.List.{map-append}
 use Rattle.std.proofs.lemmas.List.Sums.{sum_by-cons}
@@ -105,6 +105,11 @@ pub fits_none : (s : Size) → ItemsApart s []
 unfolding All Pairs block_count
 fits_none s = record { rising = tt; each = tt; apart = tt; blocks_few = omega arith }
 
+-- what all of the first n are, each of them is
+pub front_at : (ms : List Item) (d : Item) (n i : ℕ) → n ≤ length ms → i < n → (P : Item → Type 0) → All P (take n ms) → P (get_or ms i d)
+front_at ms d n i few h P a =
+    let l : length (take n ms) ≡ n = length-take-le n ms few in subst P (get_or-take n ms i d h) (all_at P d (take n ms) i (omega arith) a)
+
 module _ (ms : List Item) (w : AllWhole ms) (d : Item) (i : ℕ) (h : i < length ms) (s : Size) where
   things_more : things_of (i + 1) ms ≡ things_of i ms ++ thing_of (get_or ms i d) ∷ []
   things_more = ap (λ k. things_of k ms) (add-one i) ∙ ap (map thing_of) (take-suc ms i d h) ∙ rw map-append
@@ -112,8 +117,8 @@ module _ (ms : List Item) (w : AllWhole ms) (d : Item) (i : ℕ) (h : i < length
   split : ItemsApart s (map thing_of ms) → ItemsApart s (things_of i ms ++ thing_of (get_or ms i d) ∷ map thing_of (drop (suc i) ms))
   split f = subst (ItemsApart s) (ap (map thing_of) (split_at ms i d h) ∙ rw map-append) f
 
-  pub front_at : Whole (get_or ms i d)
-  front_at = all_at Whole d ms i h w.each
+  pub front_whole : Whole (get_or ms i d)
+  front_whole = front_at ms d (length ms) i (omega arith) h Whole (all_take Whole (length ms) ms w.each)
 
   pub fits_not : ¬ (Joins s (things_of i ms) (thing_of (get_or ms i d))) → Says false (ItemsApart s (map thing_of ms))
   fits_not j = says_never (λ f. j (fits_joins s (things_of i ms) (thing_of (get_or ms i d)) _ (split f)))

@@ -30,18 +30,18 @@ returns-then-eq t c =
     let g = c.args in
     let p = c.requires in
     let w = c.write.ensures in
-    rw (w.xs, w.ys) (traced_home (map_of g.chart.now.map.now) g.chart.now.d.now (toll_of g.turns) (crossing g.g) (crossing g.q) (way_of g.came) g.left g.at _ _ c.args.chart.now.charted p.home (said (one_crossing g.q g.g c.eq.ensures) c.if-eq.true))
+    rw (w.xs, w.ys) (traced_home (map_of g.chart.now.map.now) g.chart.now.d.now (toll_of g.turns.now) (crossing g.g) (crossing g.q) (way_of g.came) g.left g.at _ _ c.args.chart.now.charted p.home (said (one_crossing g.q g.g c.eq.ensures) c.if-eq.true))
 
 pub returns-in_default : goal.returns-in_default
 returns-in_default t c =
     let g = c.args in
-    traced_stuck (map_of g.chart.now.map.now) g.chart.now.d.now (toll_of g.turns) (crossing g.g) (crossing g.q) (way_of g.came) g.left g.at _ _ (said_not (one_crossing g.q g.g c.eq.ensures) c.if-eq.false)
+    traced_stuck (map_of g.chart.now.map.now) g.chart.now.d.now (toll_of g.turns.now) (crossing g.g) (crossing g.q) (way_of g.came) g.left g.at _ _ (said_not (one_crossing g.q g.g c.eq.ensures) c.if-eq.false)
     c.in_default.ensures
 
 pub next-to-requires : goal.next-to-requires
 next-to-requires t c =
     let g = c.args in
-    lead_room _ _ c.args.chart.now.charted g.q _ (way_leads _ _ (toll_of g.turns) (way_of g.came) g.left c.args.chart.now.charted (crossing g.q) _ c.in-Some.ensures)
+    lead_room _ _ c.args.chart.now.charted g.q _ (way_leads _ _ (toll_of g.turns.now) (way_of g.came) g.left c.args.chart.now.charted (crossing g.q) _ c.in-Some.ensures)
 
 pub left_at-ahead-requires : goal.left_at-ahead-requires
 left_at-ahead-requires t c =
@@ -69,7 +69,7 @@ returns-then-eq-2 t c =
     let g = c.args in
     let p = c.requires in
     let e = dir_of c.in-Some.dir in
-    let o = toll_of g.turns in
+    let o = toll_of g.turns.now in
     let same : g.came ≡ Some c.in-Some.dir = search (rules, tests) in
     traced_on (map_of g.chart.now.map.now) g.chart.now.d.now o (crossing g.g) (crossing g.q) (way_of g.came) g.left g.at _ _ c.args.chart.now.charted (said_not (one_crossing g.q g.g c.eq.ensures) c.if-eq.false) e
     c.in-Some.ensures _ _ _ (ap way_of same) (rw (c.next-to.ensures, c.due-rest.ensures ∙ ap (dues o.price o.table (axis_of e)) c.next-to.ensures, ap way_of same) at c.trace.ensures)
@@ -89,7 +89,7 @@ returns t c =
     let p = c.requires in
     let w = c.write-2.ensures in
     let e = dir_of c.in-Some.dir in
-    let o = toll_of g.turns in
+    let o = toll_of g.turns.now in
     let other : ¬ (g.came ≡ Some c.in-Some.dir) = λ z. search (rules, tests) in
     traced_at (map_of g.chart.now.map.now) g.chart.now.d.now o (crossing g.g) (crossing g.q) (way_of g.came) g.left g.at _ _ c.args.chart.now.charted (said_not (one_crossing g.q g.g c.eq.ensures) c.if-eq.false) e
     c.in-Some.ensures _ _ _ (λ z. other (way_one g.came c.in-Some.dir z))

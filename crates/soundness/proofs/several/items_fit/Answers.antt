@@ -3,7 +3,7 @@ use Rattle.std.proofs.Common.{[], arith}
 use Rattle.paper.specs.declared.Item.{Item}
 use Rattle.paper.specs.Laws.Says.{said, said_not}
 use Rattle.soundness.specs.Laws.Joined.{tops_none}
-use Rattle.soundness.specs.Laws.Front.{front_at, front_placed, fits_none, fits_stop, fits_not, fits_next}
+use Rattle.soundness.specs.Laws.Front.{front_whole, front_placed, fits_none, fits_stop, fits_not, fits_next}
 use Rattle.soundness.proofs.several.items_fit.Goals.{then-item-last-via-then-item-last, then-item-last-via-else-item-last+then-not-joins}
 use Rattle.soundness.proofs.several.items_fit.Goals as goal
 
@@ -17,7 +17,7 @@ loop-i-init c = (fits_none _, tops_none)
 pub joins-requires : goal.joins-requires
 joins-requires c = (
   front_placed c.args.size c.args.items.now c.loop-i.i c.requires c.loop-i.invariant.0.each,
-  front_at c.args.items.now c.requires _ _ c.loop-i-test.true c.args.size,
+  front_whole c.args.items.now c.requires _ _ c.loop-i-test.true c.args.size,
 )
 
 pub returns-then-item-last : goal.returns-then-item-last
