@@ -108,7 +108,9 @@ fn kind_of(bytes: &[u8]) -> u8
 
 // A record fed to a board that is well formed, for callers that keep the board themselves. That it is so stays a clause and is no type of its
 // own: `Fed` speaks of the board as it is handed in and handed back. The kind is a number, for the match that document 01 names.
+// Never inlined: where it is, each record's board is copied once more before its kind is looked at.
 #[tactic(auto, using(crate::proofs::ByKind::case_read, crate::proofs::ByKind::fed_of_no_kind))]
+#[inline(never)]
 pub fn feed_sound(board: Board, bytes: &[u8], answer: &mut [u16]) -> Reply
     requires { WellFormed board }
     ensures { Fed board bytes.now answer.old answer.new result × WellFormed result.board }

@@ -29,25 +29,24 @@ fn fill(file: &[u8], from: Place, out: &mut [u8]) -> Place
     requires { Within file.now from.at from.records from.board }
     ensures { Fills file.now from out.old out.new result }
 {
-    let mut at = from.at;
-    let mut records = from.records;
-    let mut waiting: usize = 0;
-    let mut board = from.board;
-    // No `for`: a turn goes on by a whole record in the file and by a whole line in the buffer, and no index is counted. The parts of the place
-    // have names of their own: in the struct the board is copied once more in each turn.
-    while at < file.len() && records < 65535 && out.len() - waiting >= LINE_ROOM {
-        records += 1;
-        let line = step(file, at, records, board, &mut out[waiting..]);
-        at = line.next;
-        waiting += line.written;
-        board = line.board;
+    let mut place = Place { waiting: 0, ..from };
+    // No `for`: a turn goes on by a whole record in the file and by a whole line in the buffer, and no index is counted.
+    while place.at < file.len() && place.records < 65535 && out.len() - place.waiting >= LINE_ROOM {
+        let line = step(
+            file,
+            place.at,
+            place.records + 1,
+            place.board,
+            &mut out[place.waiting..],
+        );
+        place = Place {
+            at: line.next,
+            records: place.records + 1,
+            waiting: place.waiting + line.written,
+            board: line.board,
+        };
     }
-    Place {
-        at,
-        records,
-        waiting,
-        board,
-    }
+    place
 }
 
 // The last line, by way of the buffer, once every record is printed and the place is `at`.

@@ -5,9 +5,9 @@ use lib.ListN.{length}
 use Rattle.printer.specs.Filled.{Filled}
 use Rattle.printer.proofs.fill.Given as goal
 
-abbrev pub invariant-loop-at : goal.invariant-loop-at
-invariant-loop-at l =
-    (length l.out ≡ length l.initial.out) × Filled l.file l.initial.at l.initial.records l.initial.board l.initial.out l.out l.at l.records l.waiting l.board
+abbrev pub invariant-loop-place : goal.invariant-loop-place
+invariant-loop-place l =
+    (length l.out ≡ length l.initial.out) × Filled l.file l.fn.from.at l.fn.from.records l.fn.from.board l.initial.out l.out l.place.at l.place.records l.place.waiting l.place.board
 
-abbrev pub decreases-loop-at : goal.decreases-loop-at
-decreases-loop-at l = 65535 - l.records
+abbrev pub decreases-loop-place : goal.decreases-loop-place
+decreases-loop-place l = 65535 - l.place.records
