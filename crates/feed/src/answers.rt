@@ -77,9 +77,10 @@ pub(crate) fn ask(board: Board, read: Record, answer: &mut [u16]) -> Reply
                 write(answer, found.wire);
                 wire_reply(board, found.wire)
             }
-            Err(blame) => blamed(&board, blame),
+            // returned here: as the value of both arms the board is copied once more
+            Err(blame) => return blamed(board, blame),
         },
-        _ => refused(&board, Refusal::Malformed),
+        _ => refused(board, Refusal::Malformed),
     }
 }
 
@@ -120,7 +121,7 @@ fn lay_wire(board: Board, id: Id, found: Wired, answer: &mut [u16]) -> Reply
 {
     let w = found.wire;
     if found.blocks + w.corners > MOST_BLOCKS + 1 {
-        return refused(&board, Refusal::TooManyBlocks);
+        return refused(board, Refusal::TooManyBlocks);
     }
     write(answer, w);
     let next = add_item(board, wire_item(id, w));
@@ -136,8 +137,9 @@ pub(crate) fn lay(board: Board, read: Record, answer: &mut [u16]) -> Reply
     match read {
         Record::Lay(id, q) => match may_lay(board, id, q, answer.len()) {
             Ok(found) => lay_wire(board, id, found, answer),
-            Err(blame) => blamed(&board, blame),
+            // returned here too
+            Err(blame) => return blamed(board, blame),
         },
-        _ => refused(&board, Refusal::Malformed),
+        _ => refused(board, Refusal::Malformed),
     }
 }

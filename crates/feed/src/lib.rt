@@ -75,9 +75,9 @@ fn accepted(board: Board) -> Reply
     }
 }
 
-// The record is refused, and the board stays. By reference, so that it is copied into the reply and nowhere before.
-fn blamed(board: &Board, blame: Blame) -> Reply
-    ensures { result ≡ refusing (said_of blame) board.now }
+// The record is refused, and the board stays.
+fn blamed(board: Board, blame: Blame) -> Reply
+    ensures { result ≡ refusing (said_of blame) board }
 {
     Reply {
         code: u8::from(blame.why),
@@ -86,13 +86,13 @@ fn blamed(board: &Board, blame: Blame) -> Reply
         length: 0,
         detour: 0,
         corners: 0,
-        board: *board,
+        board,
     }
 }
 
 // The same about no pin.
-fn refused(board: &Board, why: Refusal) -> Reply
-    ensures { result ≡ refusing (plain (code_of why)) board.now }
+fn refused(board: Board, why: Refusal) -> Reply
+    ensures { result ≡ refusing (plain (code_of why)) board }
 {
     blamed(board, Blame::from(why))
 }
@@ -123,7 +123,7 @@ pub fn feed_sound(board: Board, bytes: &[u8], answer: &mut [u16]) -> Reply
         4 | 8 => ask(board, rec, answer),
         5 => take_out(board, rec),
         6 => undo_latest(board, rec),
-        0 | 7 | 10..=255 => refused(&board, Refusal::Malformed),
+        0 | 7 | 10..=255 => refused(board, Refusal::Malformed),
     }
 }
 
@@ -135,5 +135,5 @@ pub fn feed(board: Board, bytes: &[u8], answer: &mut [u16]) -> Reply
     if sound(board) {
         return feed_sound(board, bytes, answer);
     }
-    refused(&board, Refusal::IllFormed)
+    refused(board, Refusal::IllFormed)
 }

@@ -23,9 +23,9 @@ pub(crate) fn bounds(board: Board, read: Record) -> Reply
             if in_range(size) {
                 return accepted(begin(size));
             }
-            refused(&board, Refusal::OutOfRange)
+            refused(board, Refusal::OutOfRange)
         }
-        _ => refused(&board, Refusal::Malformed),
+        _ => refused(board, Refusal::Malformed),
     }
 }
 
@@ -88,9 +88,10 @@ pub(crate) fn keep_out(board: Board, read: Record) -> Reply
     match read {
         Record::KeepOut(id, rect) => match may_keep_out(board, id, rect) {
             Ok(()) => accepted(add_item(board, rect_item(id, rect))),
-            Err(why) => refused(&board, why),
+            // returned here: as the value of both arms the board is copied once more
+            Err(why) => return refused(board, why),
         },
-        _ => refused(&board, Refusal::Malformed),
+        _ => refused(board, Refusal::Malformed),
     }
 }
 
@@ -103,14 +104,14 @@ pub(crate) fn take_out(board: Board, read: Record) -> Reply
     match read {
         Record::TakeOut(id) => {
             if board.size.w == 0 {
-                return refused(&board, Refusal::NoBounds);
+                return refused(board, Refusal::NoBounds);
             }
             match find(board, id.number) {
                 Some(at) => accepted(take_item(board, at)),
-                None => refused(&board, Refusal::IdNotInUse),
+                None => refused(board, Refusal::IdNotInUse),
             }
         }
-        _ => refused(&board, Refusal::Malformed),
+        _ => refused(board, Refusal::Malformed),
     }
 }
 
@@ -122,13 +123,13 @@ pub(crate) fn undo_latest(board: Board, read: Record) -> Reply
     match read {
         Record::Undo => {
             if board.size.w == 0 {
-                return refused(&board, Refusal::NoBounds);
+                return refused(board, Refusal::NoBounds);
             }
             if board.kept == 0 {
-                return refused(&board, Refusal::NothingKept);
+                return refused(board, Refusal::NothingKept);
             }
             accepted(undo(board))
         }
-        _ => refused(&board, Refusal::Malformed),
+        _ => refused(board, Refusal::Malformed),
     }
 }
